@@ -1,0 +1,10 @@
+pub mod Words
+pub mod Tests
+pub mod Lists
+pub mod Integers
+pub mod Ring
+pub mod Solve
+pub mod Order
+pub mod Signs
+pub mod Size
+pub mod Machine

@@ -1,0 +1,8 @@
+pub mod Shape
+pub mod Tree
+pub mod Tables
+pub mod Calls
+pub mod Lookup
+pub mod History
+pub mod Meaning
+pub mod Cases

@@ -1,0 +1,185 @@
+-- What the tests mean, in the paper's words. Nothing here computes; `meaning` proves that each test says just this.
+use mathlib.Core.Path.{_≡_}
+use mathlib.Core.Logic.{_⊎_, _↔_}
+use mathlib.Core.List.{List, List·Memᴰ}
+use Prim.Native.Nat.{ℕ, _+_, _*_, _/_, _≤_, _<_}
+use lib.IntN.{ℤ, pos, subℕ, _*ℤ_, _-ℤ_}
+use lib.ListN.{length}
+use Rattle.algebra.specs.Words.{Rising}
+use Rattle.definitions.specs.declared.Point.{Point}
+use Rattle.definitions.specs.Shape.{Line, Block, east, north, nwOf, neOf, swOf, seOf, gridPoint, minX, maxX, minY, maxY}
+use Rattle.definitions.specs.Tree.{Rule, Tree, leaf, divided}
+use Rattle.definitions.specs.Tables.{Tables, live, generation, x1, y1, x2, y2, leftLabel, rightLabel, lineAt, nodeTable, listingTable}
+use Rattle.definitions.specs.Lookup.{westEnd, eastEnd, run, upperLabel}
+
+-- ---- A common point
+
+-- three whole numbers with Z above 0, standing for (X/Z, Y/Z)
+pub record Spot : Type 0 where
+  pub X : ℕ
+  pub Y : ℕ
+  pub Z : ℕ
+  pub some : 0 < Z
+
+-- the turn of a, b and the spot, times Z
+unfoldable pub turnAt : Point → Point → Spot → ℤ
+turnAt a b s =
+    subℕ (b .x .0) (a .x .0) *ℤ subℕ (s .Y) (a .y .0 * s .Z) -ℤ subℕ (b .y .0) (a .y .0) *ℤ subℕ (s .X) (a .x .0 * s .Z)
+
+-- the spot is a point of the line, ends included
+pub record OnLine (s : Spot) (l : Line) : Type 0 where
+  pub straight : turnAt (l .a) (l .b) s ≡ pos 0
+  pub fromWest : minX l * s .Z ≤ s .X
+  pub toEast : s .X ≤ maxX l * s .Z
+  pub fromSouth : minY l * s .Z ≤ s .Y
+  pub toNorth : s .Y ≤ maxY l * s .Z
+
+-- the spot lies in the closed block
+pub record InBlock (s : Spot) (k : Block) : Type 0 where
+  pub fromWest : k .west * s .Z ≤ s .X
+  pub toEast : s .X ≤ east k * s .Z
+  pub fromSouth : k .south * s .Z ≤ s .Y
+  pub toNorth : s .Y ≤ north k * s .Z
+
+-- the spot is the point
+pub record AtPoint (s : Spot) (p : Point) : Type 0 where
+  pub sameX : s .X ≡ p .x .0 * s .Z
+  pub sameY : s .Y ≡ p .y .0 * s .Z
+
+abbrev pub AtEnd : Spot → Line → Type 0
+AtEnd s l = AtPoint s (l .a) ⊎ AtPoint s (l .b)
+
+-- some point of the line, ends included, lies in the closed block
+abbrev pub Meets : Block → Line → Type 0
+Meets k l = (s : Spot) × OnLine s l × InBlock s k
+
+-- the lines share a point that isn't an end of both
+abbrev pub Conflicts : Line → Line → Type 0
+Conflicts l m = (s : Spot) × OnLine s l × OnLine s m × ¬ (AtEnd s l × AtEnd s m)
+
+-- ---- The rule of division, and the tree that it leaves
+
+abbrev pub EndOf : Point → Line → Type 0
+EndOf p l = (p ≡ l .a) ⊎ (p ≡ l .b)
+
+-- p is an end of one of the lines
+abbrev pub AnEnd : List Line → Point → Type 0
+AnEnd lines p = (l : Line) × List·Memᴰ l lines × EndOf p l
+
+-- p lies in the closed block
+pub record In (k : Block) (p : Point) : Type 0 where
+  pub fromWest : k .west ≤ p .x .0
+  pub toEast : p .x .0 ≤ east k
+  pub fromSouth : k .south ≤ p .y .0
+  pub toNorth : p .y .0 ≤ north k
+
+pub record Criteria (lines : List Line) (k : Block) : Type 0 where
+  -- C1: the lines have at most one distinct end in the block
+  pub c1 : (p q : Point) → AnEnd lines p → AnEnd lines q → In k p → In k q → p ≡ q
+  -- C2': if it has such an end, every line meeting the block has it as one of its ends
+  pub c2 : (p : Point) → AnEnd lines p → In k p → (l : Line) → List·Memᴰ l lines → Meets k l → EndOf p l
+  -- C3: if it has none, at most one line meets it
+  pub c3 : ((p : Point) → AnEnd lines p → In k p → ⊥) → (l m : Line) → List·Memᴰ l lines → List·Memᴰ m lines → Meets k l → Meets k m → l ≡ m
+
+-- the slots of the lines that meet the block, each once, by rising slot
+pub record Lists (lines : List Line) (k : Block) (slots : List ℕ) : Type 0 where
+  pub rising : Rising slots
+  pub exactly : (x : ℕ) → List·Memᴰ x slots ↔ ((l : Line) × List·Memᴰ l lines × Meets k l × (x ≡ l .slot))
+
+-- a tree of these lines over the block: divided exactly if the block is not simple and its side exceeds 2
+pub data IsTree (Simple : Block → Type 0) (lines : List Line) : Block → Tree → Type 0 where
+  whole : {k : Block} {slots : List ℕ} → ((Simple k → ⊥) × (2 < k .side) → ⊥) → Lists lines k slots → IsTree Simple lines k (leaf slots)
+  parted : {k : Block} {nw ne sw se : Tree} → (Simple k → ⊥) × (2 < k .side)
+      → IsTree Simple lines (nwOf k) nw → IsTree Simple lines (neOf k) ne → IsTree Simple lines (swOf k) sw → IsTree Simple lines (seOf k) se
+      → IsTree Simple lines k (divided nw ne sw se)
+
+-- a leaf of the tree over a block: its own block, and its list
+pub data LeafAt : Block → Tree → Block → List ℕ → Type 0 where
+  here : {k j : Block} {slots list : List ℕ} → j ≡ k → list ≡ slots → LeafAt k (leaf slots) j list
+  inNW : {k j : Block} {a b c d : Tree} {list : List ℕ} → LeafAt (nwOf k) a j list → LeafAt k (divided a b c d) j list
+  inNE : {k j : Block} {a b c d : Tree} {list : List ℕ} → LeafAt (neOf k) b j list → LeafAt k (divided a b c d) j list
+  inSW : {k j : Block} {a b c d : Tree} {list : List ℕ} → LeafAt (swOf k) c j list → LeafAt k (divided a b c d) j list
+  inSE : {k j : Block} {a b c d : Tree} {list : List ℕ} → LeafAt (seOf k) d j list → LeafAt k (divided a b c d) j list
+
+-- ---- A sound map
+
+-- the slot's line lives
+pub record Live (lines : List ℕ) (s : ℕ) : Type 0 where
+  pub there : s < length lines / 8
+  pub lives : live lines s ≡ 1
+
+-- a live slot has generation at least 1, ends on the grid and distinct
+pub record LiveSlot (lines : List ℕ) (s : ℕ) : Type 0 where
+  pub lives : live lines s ≡ 1
+  pub given : 1 ≤ generation lines s
+  pub gridX1 : x1 lines s ≤ 16383
+  pub gridY1 : y1 lines s ≤ 16383
+  pub gridX2 : x2 lines s ≤ 16383
+  pub gridY2 : y2 lines s ≤ 16383
+  pub distinct : x1 lines s ≡ x2 lines s → y1 lines s ≡ y2 lines s → ⊥
+
+-- a slot that isn't live has 0 in all but its generation
+pub record EmptySlot (lines : List ℕ) (s : ℕ) : Type 0 where
+  pub notLive : live lines s ≡ 0
+  pub noX1 : x1 lines s ≡ 0
+  pub noY1 : y1 lines s ≡ 0
+  pub noX2 : x2 lines s ≡ 0
+  pub noY2 : y2 lines s ≡ 0
+  pub noLeft : leftLabel lines s ≡ 0
+  pub noRight : rightLabel lines s ≡ 0
+
+pub record SoundMap (rule : Rule) (t : Tables) : Type 0 where
+  pub slots : (s : ℕ) → s < length (t .lines) / 8 → LiveSlot (t .lines) s ⊎ EmptySlot (t .lines) s
+  pub apart : (s u : ℕ) → Live (t .lines) s → Live (t .lines) u → (s ≡ u → ⊥) → ¬ Conflicts (lineAt (t .lines) s) (lineAt (t .lines) u)
+  pub nodes : t .nodes ≡ nodeTable rule (length (t .nodes)) (t .lines)
+  pub listings : t .listings ≡ listingTable rule (length (t .listings)) (t .lines)
+
+-- ---- The lookup, over heights as fractions
+
+-- p is a point of the line
+pub record Through (p : Point) (l : Line) : Type 0 where
+  pub spot : Spot
+  pub isP : AtPoint spot p
+  pub online : OnLine spot l
+
+-- s is the line's point over x
+pub record PointOver (x : ℕ) (l : Line) (s : Spot) : Type 0 where
+  pub online : OnLine s l
+  pub over : s .X ≡ x * s .Z
+
+-- the line's x range, west end included and east end left off, holds p's x, and there the line passes below p
+pub record CountsBelow (p : Point) (l : Line) : Type 0 where
+  pub fromWest : minX l ≤ p .x .0
+  pub beforeEast : p .x .0 < maxX l
+  pub spot : Spot
+  pub there : PointOver (p .x .0) l spot
+  pub under : spot .Y < p .y .0 * spot .Z
+
+-- l rises more steeply, rise over run, than m: (ey - wy) / run l above (ey' - wy') / run m
+unfoldable pub Steeper : Line → Line → Type 0
+Steeper l m = westEnd l .y .0 * run m + eastEnd m .y .0 * run l < eastEnd l .y .0 * run m + westEnd m .y .0 * run l
+
+-- l, at s, is higher than m, at t; or as high, and m does not rise more steeply
+unfoldable pub NoneHigher : Line → Spot → Line → Spot → Type 0
+NoneHigher l s m t = (t .Y * s .Z < s .Y * t .Z) ⊎ ((t .Y * s .Z ≡ s .Y * t .Z) × (Steeper m l → ⊥))
+
+-- n answers to p
+pub data Answers (lines : List ℕ) (p : Point) (n : ℕ) : Type 0 where
+  -- on a live line: the lowest such slot
+  upon : (s : ℕ) → Live lines s → Through p (lineAt lines s)
+      → ((u : ℕ) → Live lines u → Through p (lineAt lines u) → s ≤ u)
+      → n ≡ 65536 + s → Answers lines p n
+  -- else the highest line below, at equal height the steeper rising one
+  under : ((u : ℕ) → Live lines u → Through p (lineAt lines u) → ⊥)
+      → (s : ℕ) → Live lines s → (b : CountsBelow p (lineAt lines s))
+      → ((u : ℕ) → Live lines u → (c : CountsBelow p (lineAt lines u)) → NoneHigher (lineAt lines s) (b .spot) (lineAt lines u) (c .spot))
+      → n ≡ upperLabel lines s → Answers lines p n
+  -- no such line
+  outside : ((u : ℕ) → Live lines u → Through p (lineAt lines u) → ⊥)
+      → ((u : ℕ) → Live lines u → CountsBelow p (lineAt lines u) → ⊥)
+      → n ≡ 0 → Answers lines p n
+
+-- n answers to the grid pair x, y
+pub data AnswersTo (lines : List ℕ) (x y n : ℕ) : Type 0 where
+  offGrid : (16383 < x) ⊎ (16383 < y) → n ≡ 4294967295 → AnswersTo lines x y n
+  within : x ≤ 16383 → y ≤ 16383 → Answers lines (gridPoint x y) n → AnswersTo lines x y n
