@@ -40,3 +40,9 @@ both-ways false false f g = refl
 pub false-by : (b : Bool) → (b ≡ true → ⊥) → b ≡ false
 false-by true f = absurd (f refl)
 false-by false f = refl
+
+pub both→ : (a b : Bool) → a && b ≡ true → (a ≡ true) × (b ≡ true)
+both→ a b e = (and-l a b e, and-r a b e)
+
+pub both← : {a b : Bool} → a ≡ true → b ≡ true → a && b ≡ true
+both← {a} {b} e f = and-b a b e f
