@@ -72,7 +72,7 @@ module _ {A : Type 0} (p : A → Bool) where
   every← (a ∷ more) f = every-yes a more (f a (List·Memᴰ·head refl)) ∙ every← more (λ x m. f x (List·Memᴰ·tail m))
 
 module _ {A : Type 0} (q : A → Bool) where
-  cons-those : (x : A) (xs ys : List A) → those q xs ≡ those q ys → those q (x ∷ xs) ≡ those q (x ∷ ys)
+  pub cons-those : (x : A) (xs ys : List A) → those q xs ≡ those q ys → those q (x ∷ xs) ≡ those q (x ∷ ys)
   unfolding those
   cons-those x xs ys h = ap (λ zs. elim (q x) [ true ↦ x ∷ zs | false ↦ zs ]) h
 

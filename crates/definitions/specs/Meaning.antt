@@ -5,6 +5,7 @@ use mathlib.Core.List.{List, List·Memᴰ}
 use Prim.Native.Nat.{ℕ, _+_, _*_, _/_, _≤_, _<_}
 use lib.IntN.{ℤ, pos, subℕ, _*ℤ_, _-ℤ_}
 use lib.ListN.{length}
+use native.Mathlib.Omega.{arith}
 use Rattle.algebra.specs.Words.{Rising}
 use Rattle.definitions.specs.declared.Point.{Point}
 use Rattle.definitions.specs.Shape.{Line, Block, east, north, nwOf, neOf, swOf, seOf, gridPoint, minX, maxX, minY, maxY}
@@ -136,11 +137,13 @@ pub record SoundMap (rule : Rule) (t : Tables) : Type 0 where
 
 -- ---- The lookup, over heights as fractions
 
+-- a point is the spot with Z = 1
+unfoldable pub spotOf : Point → Spot
+spotOf p = record { X = p .x .0; Y = p .y .0; Z = 1; some = omega arith }
+
 -- p is a point of the line
-pub record Through (p : Point) (l : Line) : Type 0 where
-  pub spot : Spot
-  pub isP : AtPoint spot p
-  pub online : OnLine spot l
+unfoldable pub Through : Point → Line → Type 0
+Through p l = OnLine (spotOf p) l
 
 -- s is the line's point over x
 pub record PointOver (x : ℕ) (l : Line) (s : Spot) : Type 0 where

@@ -78,8 +78,8 @@ Within ls ms = (l : Line) → List·Memᴰ l ls → (m : Line) × List·Memᴰ m
 
 -- no two lines of the list have the same ends: the list stands for a set
 pub data Once : List Line → Type 0 where
-  none : Once []
-  one : {l : Line} {ls : List Line} → ((m : Line) → List·Memᴰ m ls → SameEnds l m → ⊥) → Once ls → Once (l ∷ ls)
+  noLine : Once []
+  newLine : {l : Line} {ls : List Line} → ((m : Line) → List·Memᴰ m ls → SameEnds l m → ⊥) → Once ls → Once (l ∷ ls)
 
 -- ls is ms with some lines left out
 pub data Sub : List Line → List Line → Type 0 where

@@ -1,0 +1,347 @@
+-- The computed answer is the one that the rule over heights allows, and the only one.
+use mathlib.Core.Path.{_≡_, refl, sym, _∙_, ap, subst}
+use mathlib.Core.Logic.{_↔_, _⊎_, inl, inr}
+use mathlib.Core.Bool.{Bool, true, false, not, _&&_, _||_}
+use mathlib.Core.List.{List, [], _∷_, map, List·Memᴰ, List·Memᴰ·head, List·Memᴰ·tail, List·Memᴰ·not-nil}
+use Prim.Native.Nat.{ℕ, zero, suc, _+_, _*_, _/_, _≤_, _<_}
+use native.Mathlib.Omega.{arith}
+use lib.ListN.{length}
+use lib.Dec.{eqb}
+use borrow.Author.Tests.{le-leb, lt-leb, eqb-true, eqb-false, eq-eqb, not-true}
+use Rattle.definitions.specs.declared.Point.{Point}
+use Rattle.algebra.specs.Lists.{those-yes, those-no, in-those, of-those, every→, in-upFrom, to-upFrom}
+use Rattle.algebra.specs.Signs.{equal-of-zero}
+use Rattle.algebra.specs.Tests.{no-path, and-b, or-cases}
+use Rattle.algebra.specs.Words.{those, every, upFrom, if_then_else_}
+use Rattle.definitions.specs.Lookup.{below, run, higher, highest, upperLabel, answerAt, answerTo}
+use Rattle.definitions.specs.Meaning.{spotOf, CountsBelow, NoneHigher, Live, Through, Answers, upon, under, outside, AnswersTo, offGrid, within}
+use Rattle.definitions.specs.Shape.{Line, gridPoint, conflict, on}
+use Rattle.definitions.specs.Tables.{live, isLive, slotsOf, lineAt, liveSlots, liveLines, onGrid, noneConflict}
+use Rattle.meaning.specs.Compare.{order}
+use Rattle.meaning.specs.Crossing.{spot-on, on→, on←}
+use Rattle.meaning.specs.Height.{counts-below, over-is, below→, none-higher→, none-higher←}
+use Rattle.meaning.specs.Meeting.{turnAt-is}
+use Rattle.meaning.specs.Rank.{Over, clear-of, Higher, higher→, higher←, asym, higher-trans, higher-total, run-some}
+
+-- live slots
+pub live→ : (lines : List ℕ) (s : ℕ) → List·Memᴰ s (liveSlots lines) → Live lines s
+unfolding liveSlots slotsOf isLive
+live→ lines s m =
+    let k = of-those (isLive lines) (upFrom 0 (length lines / 8)) m in
+    record { there = omega (arith, in-upFrom 0 (length lines / 8) s (k .0) .1); lives = eqb-true _ _ (k .1) }
+
+pub live← : (lines : List ℕ) (s : ℕ) → Live lines s → List·Memᴰ s (liveSlots lines)
+unfolding liveSlots slotsOf isLive
+live← lines s v = in-those (isLive lines) (upFrom 0 (length lines / 8)) (to-upFrom 0 (length lines / 8) s (omega arith) (omega (arith, v .there))) (eq-eqb _ _ (v .lives))
+
+-- through p
+pub through-is : (p : Point) (l : Line) → (on p l ≡ true) ↔ Through p l
+unfolding Through spotOf
+through-is p l = (
+  λ e. spot-on p l (on→ p l e),
+  λ t. on← p l (record {
+    even = level (l .a .x .0) (l .a .y .0) (l .b .x .0) (l .b .y .0) (p .x .0) (p .y .0) (equal-of-zero (turnAt-is (l .a) (l .b) (spotOf p)) (t .straight));
+    w = omega (arith, t .fromWest);
+    e = omega (arith, t .toEast);
+    s = omega (arith, t .fromSouth);
+    n = omega (arith, t .toNorth);
+  }),
+)
+  where
+    level : (ax ay bx by X Y : ℕ) → bx * Y + by * (ax * 1) + ay * X ≡ bx * (ay * 1) + ax * Y + by * X → bx * Y + ay * X + by * ax ≡ bx * ay + ax * Y + by * X
+    level ax ay bx by X Y e = omega arith
+
+-- lists of slots, and of their lines
+module _ (f : ℕ → Line) where
+  pub of-map : {l : Line} (xs : List ℕ) → List·Memᴰ l (map f xs) → (s : ℕ) × List·Memᴰ s xs × (l ≡ f s)
+  of-map [] m = absurd (List·Memᴰ·not-nil m)
+  of-map (x ∷ xs) (List·Memᴰ·head e) = (x, List·Memᴰ·head refl, e)
+  of-map (x ∷ xs) (List·Memᴰ·tail m) = let h = of-map xs m in (h .0, List·Memᴰ·tail (h .1), h .2)
+
+  pub to-map : {s : ℕ} (xs : List ℕ) → List·Memᴰ s xs → List·Memᴰ (f s) (map f xs)
+  to-map (x ∷ xs) (List·Memᴰ·head e) = List·Memᴰ·head (ap f e)
+  to-map (x ∷ xs) (List·Memᴰ·tail m) = List·Memᴰ·tail (to-map xs m)
+
+-- rising slots
+pub data Up : ℕ → List ℕ → Type 0 where
+  done : {lo : ℕ} → Up lo []
+  next : {lo x : ℕ} {xs : List ℕ} → lo ≤ x → Up x xs → Up lo (x ∷ xs)
+
+up-from : {lo hi : ℕ} {xs : List ℕ} → lo ≤ hi → Up hi xs → Up lo xs
+up-from h done = done
+up-from {lo} {hi} h (next {x = x} k u) = next {lo = lo} {x = x} (omega arith) u
+
+up-count : (i n : ℕ) → Up i (upFrom i n)
+unfolding upFrom
+up-count i zero = done
+up-count i (suc n) = next {lo = i} {x = i} (omega arith) (up-from {lo = i} {hi = suc i} (omega arith) (up-count (suc i) n))
+
+pub up-low : {lo u : ℕ} {xs : List ℕ} → Up lo xs → List·Memᴰ u xs → lo ≤ u
+up-low (next {lo = lo} {x = x} h k) (List·Memᴰ·head e) = omega arith
+up-low {lo} {u} (next {x = x} h k) (List·Memᴰ·tail m) = let j : x ≤ u = up-low k m in omega arith
+
+up-those : (q : ℕ → Bool) {lo : ℕ} {xs : List ℕ} → Up lo xs → Up lo (those q xs)
+unfolding those
+up-those q done = done
+up-those q (next {lo = lo} {x = x} {xs = xs} h k) = go (q x) refl (up-those q k)
+  where
+    go : (t : Bool) → q x ≡ t → Up x (those q xs) → Up lo (those q (x ∷ xs))
+    go true e u = rw (those-yes q x xs e) (next h u)
+    go false e u = rw (those-no q x xs e) (up-from h u)
+
+pub up-live : (lines : List ℕ) → Up 0 (liveSlots lines)
+unfolding liveSlots slotsOf
+up-live lines = up-those (isLive lines) (up-count 0 (length lines / 8))
+
+-- the first that passes is the lowest
+pub record First (f : ℕ → Line) (q : Line → Bool) (xs : List ℕ) (l : Line) : Type 0 where
+  pub slot : ℕ
+  pub isIn : List·Memᴰ slot xs
+  pub itself : l ≡ f slot
+  pub passes : q (f slot) ≡ true
+  pub lowest : (u : ℕ) → List·Memᴰ u xs → q (f u) ≡ true → slot ≤ u
+
+pub first : (f : ℕ → Line) (q : Line → Bool) {lo : ℕ} (xs : List ℕ) (l : Line) (more : List Line) → Up lo xs → those q (map f xs) ≡ l ∷ more → First f q xs l
+unfolding those
+first f q [] l more up e = let z : _≡_ {A = ℕ} 0 1 = cc in absurd (omega arith)
+first f q (x ∷ xs) l more (next h k) e = go (q (f x)) refl (λ j. first f q xs l more k j)
+  where
+    low : (u : ℕ) → List·Memᴰ u (x ∷ xs) → q (f u) ≡ true → x ≤ u
+    low u (List·Memᴰ·head i) j = omega arith
+    low u (List·Memᴰ·tail m) j = up-low k m
+
+    later : First f q xs l → q (f x) ≡ false → First f q (x ∷ xs) l
+    later r d = record { slot = r .slot; isIn = List·Memᴰ·tail (r .isIn); itself = r .itself; passes = r .passes; lowest = lowest }
+      where
+        lowest : (u : ℕ) → List·Memᴰ u (x ∷ xs) → q (f u) ≡ true → r .slot ≤ u
+        lowest u (List·Memᴰ·head i) j = no-path (sym d ∙ ap (λ (n : ℕ). q (f n)) (sym i) ∙ j)
+        lowest u (List·Memᴰ·tail m) j = r .lowest u m j
+
+    go : (t : Bool) → q (f x) ≡ t → (those q (map f xs) ≡ l ∷ more → First f q xs l) → First f q (x ∷ xs) l
+    go true d r = record { slot = x; isIn = List·Memᴰ·head refl; itself = cc (sym e, those-yes q (f x) (map f xs) d); passes = d; lowest = low }
+    go false d r = later (r (sym (those-no q (f x) (map f xs) d) ∙ e)) d
+
+-- the highest of a list
+module _ (x : ℕ) where
+  irreflexive : (l : Line) → Higher x l l → ⊥
+  irreflexive l h = asym x l l h h
+
+  abbrev Runs : List Line → Type 0
+  Runs ms = (m : Line) → List·Memᴰ m ms → 0 < run m
+
+  keeps : (ms : List Line) (l k : Line) → Runs (l ∷ ms) → 0 < run k → (Higher x k l → ⊥) → Higher x k (highest x l ms) → ⊥
+  unfolding highest
+  keeps [] l k r h f = f
+  keeps (m ∷ ms) l k r h f = go (higher x m l) refl (λ i j. keeps ms m k i h j) (λ i. keeps ms l k i h f)
+    where
+      go : (t : Bool) → higher x m l ≡ t → (Runs (m ∷ ms) → (Higher x k m → ⊥) → Higher x k (highest x m ms) → ⊥)
+          → (Runs (l ∷ ms) → Higher x k (highest x l ms) → ⊥) → Higher x k (highest x (if t then m else l) ms) → ⊥
+      go true e a b = a (λ n i. r n (List·Memᴰ·tail i)) (λ i. f (higher-trans x k m l h (r m (List·Memᴰ·tail (List·Memᴰ·head refl))) (r l (List·Memᴰ·head refl)) i (higher→ x m l e)))
+      go false e a b = b without
+        where
+          without : (n : Line) → List·Memᴰ n (l ∷ ms) → 0 < run n
+          without n (List·Memᴰ·head i) = r n (List·Memᴰ·head i)
+          without n (List·Memᴰ·tail i) = r n (List·Memᴰ·tail (List·Memᴰ·tail i))
+
+  pub highest-best : (ms : List Line) (l k : Line) → Runs (l ∷ ms) → List·Memᴰ k (l ∷ ms) → Higher x k (highest x l ms) → ⊥
+  unfolding highest
+  highest-best [] l k r i = only i
+    where
+      only : List·Memᴰ k (l ∷ []) → Higher x k l → ⊥
+      only (List·Memᴰ·head e) h = irreflexive l (subst (λ (n : Line). Higher x n l) e h)
+      only (List·Memᴰ·tail j) h = List·Memᴰ·not-nil j
+  highest-best (m ∷ ms) l k r i = go (higher x m l) refl i (λ a b. highest-best ms m k a b) (λ a b. highest-best ms l k a b)
+    where
+      without : (n : Line) → List·Memᴰ n (l ∷ ms) → 0 < run n
+      without n (List·Memᴰ·head i) = r n (List·Memᴰ·head i)
+      without n (List·Memᴰ·tail i) = r n (List·Memᴰ·tail (List·Memᴰ·tail i))
+
+      past : higher x m l ≡ false → (k ≡ m) → Higher x k l → ⊥
+      past e d h = no-path (sym e ∙ higher← x m l (subst (λ (n : Line). Higher x n l) d h))
+
+      go : (t : Bool) → higher x m l ≡ t → List·Memᴰ k (l ∷ m ∷ ms) → (Runs (m ∷ ms) → List·Memᴰ k (m ∷ ms) → Higher x k (highest x m ms) → ⊥)
+          → (Runs (l ∷ ms) → List·Memᴰ k (l ∷ ms) → Higher x k (highest x l ms) → ⊥) → Higher x k (highest x (if t then m else l) ms) → ⊥
+      go true e (List·Memᴰ·tail j) a b = a (λ n i. r n (List·Memᴰ·tail i)) j
+      go true e (List·Memᴰ·head d) a b =
+          keeps ms m k (λ n i. r n (List·Memᴰ·tail i)) (r k (List·Memᴰ·head d)) (λ h. asym x m l (higher→ x m l e) (subst (λ (n : Line). Higher x n m) d h))
+      go false e (List·Memᴰ·head d) a b = b without (List·Memᴰ·head d)
+      go false e (List·Memᴰ·tail (List·Memᴰ·head d)) a b = keeps ms l k without (subst (λ (n : Line). 0 < run n) (sym d) (r m (List·Memᴰ·tail (List·Memᴰ·head refl)))) (past e d)
+      go false e (List·Memᴰ·tail (List·Memᴰ·tail j)) a b = b without (List·Memᴰ·tail j)
+
+  pub highest-in : (ms : List Line) (l : Line) → List·Memᴰ (highest x l ms) (l ∷ ms)
+  unfolding highest
+  highest-in [] l = List·Memᴰ·head refl
+  highest-in (m ∷ ms) l = go (higher x m l) (highest-in ms m) (highest-in ms l)
+    where
+      skip : {k : Line} → List·Memᴰ k (l ∷ ms) → List·Memᴰ k (l ∷ m ∷ ms)
+      skip (List·Memᴰ·head e) = List·Memᴰ·head e
+      skip (List·Memᴰ·tail i) = List·Memᴰ·tail (List·Memᴰ·tail i)
+
+      go : (t : Bool) → List·Memᴰ (highest x m ms) (m ∷ ms) → List·Memᴰ (highest x l ms) (l ∷ ms) → List·Memᴰ (highest x (if t then m else l) ms) (l ∷ m ∷ ms)
+      go true a b = List·Memᴰ·tail a
+      go false a b = skip b
+
+module _ (lines : List ℕ) (p : Point) where
+  pub live-mem : (l : Line) → List·Memᴰ l (liveLines lines) → (s : ℕ) × Live lines s × (l ≡ lineAt lines s)
+  unfolding liveLines
+  live-mem l m = let h = of-map (lineAt lines) (liveSlots lines) m in (h .0, live→ lines (h .0) (h .1), h .2)
+
+  pub mem-live : (s : ℕ) → Live lines s → List·Memᴰ (lineAt lines s) (liveLines lines)
+  unfolding liveLines
+  mem-live s v = to-map (lineAt lines) (liveSlots lines) (live← lines s v)
+
+  -- the best line below p, by the computed order
+  pub record Best (s : ℕ) : Type 0 where
+    pub lives : Live lines s
+    pub under : below p (lineAt lines s) ≡ true
+    pub tops : (u : ℕ) → Live lines u → below p (lineAt lines u) ≡ true → Higher (p .x .0) (lineAt lines u) (lineAt lines s) → ⊥
+
+  pub none-through : those (on p) (liveLines lines) ≡ [] → (u : ℕ) → Live lines u → Through p (lineAt lines u) → ⊥
+  none-through e u v t = List·Memᴰ·not-nil (rw e at (in-those (on p) (liveLines lines) (mem-live u v) (through-is p (lineAt lines u) .1 t)))
+
+  pub none-below : those (below p) (liveLines lines) ≡ [] → (u : ℕ) → Live lines u → below p (lineAt lines u) ≡ true → ⊥
+  none-below e u v t = List·Memᴰ·not-nil (rw e at (in-those (below p) (liveLines lines) (mem-live u v) t))
+
+  pub best-of : (l : Line) (more : List Line) → those (below p) (liveLines lines) ≡ l ∷ more → (s : ℕ) × Best s × (highest (p .x .0) l more .slot ≡ s)
+  unfolding lineAt
+  best-of l more e =
+      let h = live-mem (highest (p .x .0) l more) (inside .0) in (
+        h .0,
+        record {
+          lives = h .1;
+          under = subst (λ (k : Line). below p k ≡ true) (h .2) (inside .1);
+          tops = λ u v b. subst (λ (k : Line). Higher (p .x .0) (lineAt lines u) k → ⊥) (h .2) (highest-best (p .x .0) more l (lineAt lines u) runs (subst (λ (ms : List Line). List·Memᴰ (lineAt lines u) ms) e (in-those (below p) (liveLines lines) (mem-live u v) b)));
+        },
+        ap (λ (k : Line). k .slot) (h .2),
+      )
+    where
+      inside : List·Memᴰ (highest (p .x .0) l more) (liveLines lines) × (below p (highest (p .x .0) l more) ≡ true)
+      inside = of-those (below p) (liveLines lines) (subst (λ (ms : List Line). List·Memᴰ (highest (p .x .0) l more) ms) (sym e) (highest-in (p .x .0) more l))
+
+      runs : (m : Line) → List·Memᴰ m (l ∷ more) → 0 < run m
+      runs m i = run-some (p .x .0) m (below→ p m (of-those (below p) (liveLines lines) (subst (λ (ms : List Line). List·Memᴰ m ms) (sym e) i) .1) .0)
+
+  -- the best line is the paper's
+  pub best-answers : {n : ℕ} (s : ℕ) → ((u : ℕ) → Live lines u → Through p (lineAt lines u) → ⊥) → Best s → n ≡ upperLabel lines s → Answers lines p n
+  best-answers s none b e =
+      under none s (b .lives) (c s (b .under))
+      (λ u v d. none-higher← (p .x .0) (lineAt lines s) (lineAt lines u) (c s (b .under) .spot) (d .spot) (o (c s (b .under))) (o d) (c s (b .under) .there) (d .there)
+      (b .tops u v (counts-below p (lineAt lines u) .1 d)))
+      e
+    where
+      c : (s : ℕ) → below p (lineAt lines s) ≡ true → CountsBelow p (lineAt lines s)
+      c s h = counts-below p (lineAt lines s) .0 h
+
+      o : {l : Line} → CountsBelow p l → Over (p .x .0) l
+      o {l} d = over-is (p .x .0) l (d .fromWest) (d .beforeEast)
+
+  -- the computed answer is an answer
+  pub answer-holds : Answers lines p (answerAt lines p)
+  unfolding answerAt liveLines lineAt
+  answer-holds = ons (those (on p) (liveLines lines)) refl
+    where
+      belows : (none : (u : ℕ) → Live lines u → Through p (lineAt lines u) → ⊥) (ms : List Line) → those (below p) (liveLines lines) ≡ ms
+          → Answers lines p (elim ms [ [] ↦ 0 | l ∷ more ↦ upperLabel lines (highest (p .x .0) l more .slot) ])
+      belows none [] e = outside none (λ u v c. none-below e u v (counts-below p (lineAt lines u) .1 c)) refl
+      belows none (l ∷ more) e = let b = best-of l more e in best-answers (b .0) none (b .1) (ap (upperLabel lines) (b .2))
+
+      ons : (ms : List Line) → those (on p) (liveLines lines) ≡ ms
+          → Answers lines p (elim ms [
+            | l ∷ more ↦ 65536 + l .slot
+            | [] ↦ elim (those (below p) (liveLines lines)) [ [] ↦ 0 | l ∷ more ↦ upperLabel lines (highest (p .x .0) l more .slot) ]
+          ])
+      ons [] e = belows (none-through e) (those (below p) (liveLines lines)) refl
+      ons (l ∷ more) e =
+          let f = first (lineAt lines) (on p) (liveSlots lines) l more (up-live lines) e in
+          upon (f .slot) (live→ lines (f .slot) (f .isIn)) (through-is p (lineAt lines (f .slot)) .0 (f .passes))
+          (λ u v t. f .lowest u (live← lines u v) (through-is p (lineAt lines u) .1 t)) (ap (λ (k : Line). 65536 + k .slot) (f .itself))
+
+-- no two live lines conflict
+pub none-conflicts : (lines : List ℕ) → noneConflict lines ≡ true → (s u : ℕ) → Live lines s → Live lines u → (s ≡ u → ⊥) → conflict (lineAt lines s) (lineAt lines u) ≡ false
+unfolding noneConflict
+none-conflicts lines e s u v w d = go (or-cases (eqb s u) (not (conflict (lineAt lines s) (lineAt lines u))) pair)
+  where
+    pair : (eqb s u || not (conflict (lineAt lines s) (lineAt lines u))) ≡ true
+    pair =
+        every→ (λ (u : ℕ). eqb s u || not (conflict (lineAt lines s) (lineAt lines u))) (liveSlots lines)
+        (every→ (λ (s : ℕ). every (λ (u : ℕ). eqb s u || not (conflict (lineAt lines s) (lineAt lines u))) (liveSlots lines)) (liveSlots lines) e (live← lines s v))
+        (live← lines u w)
+
+    go : (eqb s u ≡ true) ⊎ (not (conflict (lineAt lines s) (lineAt lines u)) ≡ true) → conflict (lineAt lines s) (lineAt lines u) ≡ false
+    go (inl h) = absurd (d (eqb-true _ _ h))
+    go (inr h) = not-true _ h
+
+module _ (lines : List ℕ) (p : Point) (sound : noneConflict lines ≡ true) where
+  -- over p's x, the order of live lines is strict and total
+  pub live-total : (s u : ℕ) → Live lines s → Live lines u → Over (p .x .0) (lineAt lines s) → Over (p .x .0) (lineAt lines u)
+      → (s ≡ u) ⊎ (Higher (p .x .0) (lineAt lines s) (lineAt lines u) ⊎ Higher (p .x .0) (lineAt lines u) (lineAt lines s))
+  live-total s u v w o q = go (eqb s u) refl
+    where
+      go : (t : Bool) → eqb s u ≡ t → (s ≡ u) ⊎ (Higher (p .x .0) (lineAt lines s) (lineAt lines u) ⊎ Higher (p .x .0) (lineAt lines u) (lineAt lines s))
+      go true e = inl (eqb-true _ _ e)
+      go false e = inr (higher-total (p .x .0) (lineAt lines s) (lineAt lines u) o q (clear-of (p .x .0) _ _ o q (none-conflicts lines sound s u v w (eqb-false _ _ e))))
+
+  -- one best line, at most
+  pub best-one : (s u : ℕ) → Best lines p s → Best lines p u → s ≡ u
+  best-one s u b c = go (live-total s u (b .lives) (c .lives) (below→ p (lineAt lines s) (b .under) .0) (below→ p (lineAt lines u) (c .under) .0))
+    where
+      go : (s ≡ u) ⊎ (Higher (p .x .0) (lineAt lines s) (lineAt lines u) ⊎ Higher (p .x .0) (lineAt lines u) (lineAt lines s)) → s ≡ u
+      go (inl e) = e
+      go (inr (inl h)) = absurd (c .tops s (b .lives) (b .under) h)
+      go (inr (inr h)) = absurd (b .tops u (c .lives) (c .under) h)
+
+  to-best : (s : ℕ) → Live lines s → (b : CountsBelow p (lineAt lines s))
+      → ((u : ℕ) → Live lines u → (c : CountsBelow p (lineAt lines u)) → NoneHigher (lineAt lines s) (b .spot) (lineAt lines u) (c .spot)) → Best lines p s
+  to-best s v b f =
+      record {
+        lives = v;
+        under = counts-below p (lineAt lines s) .1 b;
+        tops = λ u w h. let d = counts-below p (lineAt lines u) .0 h in
+            none-higher→ (p .x .0) (lineAt lines s) (lineAt lines u) (b .spot) (d .spot) (o b) (o d) (b .there) (d .there) (f u w d);
+      }
+    where
+      o : {l : Line} → CountsBelow p l → Over (p .x .0) l
+      o {l} d = over-is (p .x .0) l (d .fromWest) (d .beforeEast)
+
+  -- two answers are equal
+  pub answer-one : (n k : ℕ) → Answers lines p n → Answers lines p k → n ≡ k
+  answer-one n k (upon s v t low e) (upon u w t′ low′ e′) = let h : s ≤ u = low u w t′ in let i : u ≤ s = low′ s v t in omega arith
+  answer-one n k (upon s v t low e) (under f u w c g e′) = absurd (f s v t)
+  answer-one n k (upon s v t low e) (outside f g e′) = absurd (f s v t)
+  answer-one n k (under f u w c g e′) (upon s v t low e) = absurd (f s v t)
+  answer-one n k (under f s v b g e) (under f′ u w c g′ e′) = e ∙ ap (upperLabel lines) (best-one s u (to-best s v b g) (to-best u w c g′)) ∙ sym e′
+  answer-one n k (under f s v b g e) (outside f′ g′ e′) = absurd (g′ s v b)
+  answer-one n k (outside f g e′) (upon s v t low e) = absurd (f s v t)
+  answer-one n k (outside f′ g′ e′) (under f s v b g e) = absurd (g′ s v b)
+  answer-one n k (outside f g e) (outside f′ g′ e′) = e ∙ sym e′
+
+  pub answer-iff : (n : ℕ) → (n ≡ answerAt lines p) ↔ Answers lines p n
+  answer-iff n = (λ e. subst (λ (k : ℕ). Answers lines p k) (sym e) (answer-holds lines p), λ a. answer-one n (answerAt lines p) a (answer-holds lines p))
+
+-- the same, over grid numbers
+pub answer-to-iff : (lines : List ℕ) → noneConflict lines ≡ true → (x y n : ℕ) → (n ≡ answerTo lines x y) ↔ AnswersTo lines x y n
+unfolding answerTo
+answer-to-iff lines sound x y n = go (order x 16383) (order y 16383)
+  where
+    inx : (16383 < x) ⊎ (16383 < y) → x ≤ 16383 → y ≤ 16383 → ⊥
+    inx (inl h) i j = omega arith
+    inx (inr h) i j = omega arith
+
+    off : (onGrid x && onGrid y) ≡ false → (16383 < x) ⊎ (16383 < y) → (n ≡ (if onGrid x && onGrid y then answerAt lines (gridPoint x y) else 4294967295)) ↔ AnswersTo lines x y n
+    off e h = rw e (λ i. offGrid h i, back)
+      where
+        back : AnswersTo lines x y n → n ≡ 4294967295
+        back (offGrid i j) = j
+        back (within i j a) = absurd (inx h i j)
+
+    both : (onGrid x && onGrid y) ≡ true → x ≤ 16383 → y ≤ 16383 → (n ≡ (if onGrid x && onGrid y then answerAt lines (gridPoint x y) else 4294967295)) ↔ AnswersTo lines x y n
+    both e h k = rw e (λ i. within h k (answer-iff lines (gridPoint x y) sound n .0 i), back)
+      where
+        back : AnswersTo lines x y n → n ≡ answerAt lines (gridPoint x y)
+        back (offGrid i j) = absurd (inx i h k)
+        back (within i j a) = answer-iff lines (gridPoint x y) sound n .1 a
+
+    go : (x ≤ 16383) ⊎ (16383 < x) → (y ≤ 16383) ⊎ (16383 < y) → (n ≡ (if onGrid x && onGrid y then answerAt lines (gridPoint x y) else 4294967295)) ↔ AnswersTo lines x y n
+    go (inl h) (inl k) = both (and-b _ _ (le-leb x 16383 h) (le-leb y 16383 k)) h k
+    go (inr h) k = off (rw (lt-leb x 16383 h) refl) (inl h)
+    go (inl h) (inr k) = off (rw (le-leb x 16383 h, lt-leb y 16383 k) refl) (inr k)

@@ -1,0 +1,171 @@
+-- Show leaf: the leaf found holds the point and is a leaf of the tree, and the part is its list.
+use mathlib.Core.Path.{_≡_, refl, sym, _∙_, ap, subst}
+use mathlib.Core.Bool.{Bool, true, false, _&&_}
+use mathlib.Core.List.{List, [], _++_, append-assoc}
+use Prim.Native.Nat.{ℕ, zero, suc, _+_, _-_, _/_, _^_, _≤_, _<_}
+use native.Mathlib.Omega.{arith}
+use lib.Dec.{ltb}
+use lib.ListN.{length, take, drop, replicate, length-append}
+use lib.Seq.{take-at, drop-at}
+use borrow.Author.Tests.{ltb-true, ltb-false, leb-true}
+use Rattle.definitions.specs.declared.Answer.the-variants.{Done}
+use Rattle.definitions.specs.declared.Point.{Point}
+use Rattle.algebra.specs.Tests.{and-l, and-r}
+use Rattle.algebra.specs.Words.{padded}
+use Rattle.definitions.specs.Lookup.{Showing, Leaf, leafAt, leafOver, showOf}
+use Rattle.definitions.specs.Meaning.{In, LeafAt, here, inNW, inNE, inSW, inSE}
+use Rattle.definitions.specs.Shape.{Line, Block, gridPoint, wholeMap, nwOf, neOf, swOf, seOf}
+use Rattle.definitions.specs.Tables.{Tables, lengthsFit, sound, liveLines, onGrid, listingTable}
+use Rattle.definitions.specs.Tree.{Rule, Tree, leaf, divided, listed, block, treeBy, tree, listingsOf, Fair}
+use Rattle.meaning.specs.Blocks.{double, half-power, nw-is, ne-is, sw-is, se-is}
+use Rattle.meaning.specs.Rules.{by-leaf, by-divided}
+use Rattle.meaning.specs.Sound.{Sound, sound←}
+
+-- f is a leaf of the tree, it holds p, and its part of the listings is its list
+pub record Found (p : Point) (root : Block) (t : Tree) (f : Leaf) (listings : List ℕ) : Type 0 where
+  pub list : List ℕ
+  pub isLeaf : LeafAt root t (f .place) list
+  pub holds : In (f .place) p
+  pub part : take (f .lists) (drop (f .first) listings) ≡ list
+
+-- what the search over a tree is to find, wherever its listings stand
+abbrev Finds : Point → Block → Tree → Type 0
+Finds p k t =
+    (before after : List ℕ) (first : ℕ) (listings : List ℕ) → length before ≡ first → listings ≡ before ++ (listingsOf t ++ after) → In k p
+    → Found p k t (leafAt p t k first) listings
+
+finds-leaf : (p : Point) (k : Block) (slots : List ℕ) → Finds p k (leaf slots)
+unfolding leafAt listingsOf
+finds-leaf p k slots before after first listings e f i =
+    record {
+      list = slots;
+      isLeaf = here refl refl;
+      holds = i;
+      part = ap (λ (l : List ℕ). take (length slots) (drop first l)) f ∙ ap (take (length slots)) (drop-at before (slots ++ after) first e) ∙ take-at slots after (length slots) refl;
+    }
+
+-- a leaf of a quarter is a leaf of the block
+module _ {p : Point} {k : Block} {a b c d : Tree} {f : Leaf} {listings : List ℕ} where
+  up-nw : Found p (nwOf k) a f listings → Found p k (divided a b c d) f listings
+  up-nw r = record { list = r .list; isLeaf = inNW (r .isLeaf); holds = r .holds; part = r .part }
+
+  up-ne : Found p (neOf k) b f listings → Found p k (divided a b c d) f listings
+  up-ne r = record { list = r .list; isLeaf = inNE (r .isLeaf); holds = r .holds; part = r .part }
+
+  up-sw : Found p (swOf k) c f listings → Found p k (divided a b c d) f listings
+  up-sw r = record { list = r .list; isLeaf = inSW (r .isLeaf); holds = r .holds; part = r .part }
+
+  up-se : Found p (seOf k) d f listings → Found p k (divided a b c d) f listings
+  up-se r = record { list = r .list; isLeaf = inSE (r .isLeaf); holds = r .holds; part = r .part }
+
+module _ (p : Point) (n w s : ℕ) (a b c d : Tree)
+    (fa : Finds p (nwOf (block (suc n) w s)) a) (fb : Finds p (neOf (block (suc n) w s)) b) (fc : Finds p (swOf (block (suc n) w s)) c) (fd : Finds p (seOf (block (suc n) w s)) d) where
+  abbrev k : Block
+  k = block (suc n) w s
+
+  abbrev h : ℕ
+  h = k .side / 2
+
+  twice : h + h ≡ k .side
+  twice = omega (arith, half-power n, double (suc n))
+
+  finds-four : Finds p k (divided a b c d)
+  unfolding leafAt listingsOf
+  finds-four before after first listings e f i = go (ltb (p .x .0) (w + h)) refl (ltb (p .y .0) (s + h)) refl
+    where
+      la : List ℕ
+      la = listingsOf a
+
+      lb : List ℕ
+      lb = listingsOf b
+
+      lc : List ℕ
+      lc = listingsOf c
+
+      ld : List ℕ
+      ld = listingsOf d
+
+      nw-found : p .x .0 < w + h → s + h ≤ p .y .0 → Found p k (divided a b c d) (leafAt p a (nwOf k) first) listings
+      nw-found x y =
+          up-nw (fa before (lb ++ (lc ++ (ld ++ after))) first listings e (f ∙ simp append-assoc)
+          (record { fromWest = i .fromWest; toEast = omega arith; fromSouth = y; toNorth = omega (arith, i .toNorth, twice) }))
+
+      ne-found : w + h ≤ p .x .0 → s + h ≤ p .y .0 → Found p k (divided a b c d) (leafAt p b (neOf k) (first + length la)) listings
+      ne-found x y =
+          up-ne (fb (before ++ la) (lc ++ (ld ++ after)) (first + length la) listings (simp length-append (omega arith)) (f ∙ simp append-assoc)
+          (record { fromWest = x; toEast = omega (arith, i .toEast, twice); fromSouth = y; toNorth = omega (arith, i .toNorth, twice) }))
+
+      sw-found : p .x .0 < w + h → p .y .0 < s + h → Found p k (divided a b c d) (leafAt p c (swOf k) (first + length la + length lb)) listings
+      sw-found x y =
+          up-sw (fc (before ++ la ++ lb) (ld ++ after) (first + length la + length lb) listings (simp length-append (omega arith)) (f ∙ simp append-assoc)
+          (record { fromWest = i .fromWest; toEast = omega arith; fromSouth = i .fromSouth; toNorth = omega arith }))
+
+      se-found : w + h ≤ p .x .0 → p .y .0 < s + h → Found p k (divided a b c d) (leafAt p d (seOf k) (first + length la + length lb + length lc)) listings
+      se-found x y =
+          up-se (fd (before ++ la ++ lb ++ lc) after (first + length la + length lb + length lc) listings (simp length-append (omega arith)) (f ∙ simp append-assoc)
+          (record { fromWest = x; toEast = omega (arith, i .toEast, twice); fromSouth = i .fromSouth; toNorth = omega arith }))
+
+      pick : Bool → Bool → Leaf
+      pick t u =
+          elim t [
+            | true ↦ elim u [
+              | true ↦ leafAt p c (swOf k) (first + length la + length lb)
+              | false ↦ leafAt p a (nwOf k) first
+            ]
+            | false ↦ elim u [
+              | true ↦ leafAt p d (seOf k) (first + length la + length lb + length lc)
+              | false ↦ leafAt p b (neOf k) (first + length la)
+            ]
+          ]
+
+      go : (t : Bool) → ltb (p .x .0) (w + h) ≡ t → (u : Bool) → ltb (p .y .0) (s + h) ≡ u → Found p k (divided a b c d) (pick t u) listings
+      go true x true y = sw-found (ltb-true _ _ x) (ltb-true _ _ y)
+      go true x false y = nw-found (ltb-true _ _ x) (ltb-false _ _ y)
+      go false x true y = se-found (ltb-false _ _ x) (ltb-true _ _ y)
+      go false x false y = ne-found (ltb-false _ _ x) (ltb-false _ _ y)
+
+pub finds-tree : (p : Point) (rule : Rule) (ls : List Line) (n w s : ℕ) → Finds p (block n w s) (treeBy rule ls n w s)
+unfolding treeBy
+finds-tree p rule ls zero w s = finds-leaf p (block zero w s) (listed ls (block zero w s))
+finds-tree p rule ls (suc n) w s =
+    go (rule (block (suc n) w s) ls) refl (finds-tree p rule ls n w (s + 2 ^ suc n)) (finds-tree p rule ls n (w + 2 ^ suc n) (s + 2 ^ suc n)) (finds-tree p rule ls n w s) (finds-tree p rule ls n (w + 2 ^ suc n) s)
+  where
+    At : ℕ → ℕ → Type 0
+    At x y = Finds p (block n x y) (treeBy rule ls n x y)
+
+    go : (t : Bool) → rule (block (suc n) w s) ls ≡ t → At w (s + 2 ^ suc n) → At (w + 2 ^ suc n) (s + 2 ^ suc n) → At w s → At (w + 2 ^ suc n) s → Finds p (block (suc n) w s) (treeBy rule ls (suc n) w s)
+    go true e a b c d = rw (by-leaf rule ls n w s e) (finds-leaf p (block (suc n) w s) (listed ls (block (suc n) w s)))
+    go false e a b c d =
+        rw (by-divided rule ls n w s e)
+        (finds-four p n w s _ _ _ _
+        (subst (λ (k : Block). Finds p k (treeBy rule ls n w (s + 2 ^ suc n))) (sym (nw-is n w s)) a)
+        (subst (λ (k : Block). Finds p k (treeBy rule ls n (w + 2 ^ suc n) (s + 2 ^ suc n))) (sym (ne-is n w s)) b)
+        (subst (λ (k : Block). Finds p k (treeBy rule ls n w s)) (sym (sw-is n w s)) c)
+        (subst (λ (k : Block). Finds p k (treeBy rule ls n (w + 2 ^ suc n) s)) (sym (se-is n w s)) d))
+
+-- Show leaf on a sound map: the block is that of the leaf that holds the point, and the part is its list
+pub record ShowsLeaf (rule : Rule) (t : Tables) (x y : ℕ) (place : Block) (r : Showing) : Type 0 where
+  pub tells : r .told ≡ record { answer = Done 0; side = place .side; west = record { 0 = place .west }; south = record { 0 = place .south } }
+  pub holds : In place (gridPoint x y)
+  pub isLeaf : LeafAt wholeMap (tree rule (liveLines (t .lines))) place (r .part)
+
+pub show-leaf : (rule : Rule) (fair : Fair rule) (t : Tables) (x y : ℕ) → lengthsFit t ≡ true → Sound rule t → onGrid x && onGrid y ≡ true
+    → ShowsLeaf rule t x y (leafOver rule t x y .place) (showOf rule t x y)
+unfolding showOf leafOver
+show-leaf rule fair t x y fit sd on =
+    rw (fit, sound← rule t sd, on)
+    record { tells = refl; holds = found .holds; isLeaf = subst (λ (l : List ℕ). LeafAt wholeMap T (place) l) (sym (found .part)) (found .isLeaf) }
+  where
+    T : Tree
+    T = tree rule (liveLines (t .lines))
+
+    place : Block
+    place = leafAt (gridPoint x y) (tree rule (liveLines (t .lines))) wholeMap 0 .place
+
+    found : Found (gridPoint x y) wholeMap (tree rule (liveLines (t .lines))) (leafAt (gridPoint x y) (tree rule (liveLines (t .lines))) wholeMap 0) (t .listings)
+    found =
+        unfold tree in (finds-tree (gridPoint x y) rule (liveLines (t .lines)) 14 0 0 [] _ 0 (t .listings) refl listings-are
+        (record { fromWest = omega arith; toEast = omega (arith, leb-true x 16383 (and-l (onGrid x) (onGrid y) on)); fromSouth = omega arith; toNorth = omega (arith, leb-true y 16383 (and-r (onGrid x) (onGrid y) on)) }))
+      where
+        listings-are : t .listings ≡ [] ++ (listingsOf (treeBy rule (liveLines (t .lines)) 14 0 0) ++ replicate (length (t .listings) - length (listingsOf (treeBy rule (liveLines (t .lines)) 14 0 0))) 0)
+        listings-are = unfold listingTable padded tree in (sd .listings)
