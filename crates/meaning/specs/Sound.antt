@@ -23,7 +23,7 @@ conflict-back l m pl pm e =
     conflict-iff m l pm pl .1 (c .0, c .2, c .1, λ b. c .3 (b .1, b .0))
 
 -- distinct ends on the grid are distinct in half-steps
-grid-proper : (s x y x′ y′ : ℕ) → eqb x x′ && eqb y y′ ≡ false → Proper (record { slot = s; a = gridPoint x y; b = gridPoint x′ y′ })
+pub grid-proper : (s x y x′ y′ : ℕ) → eqb x x′ && eqb y y′ ≡ false → Proper (record { slot = s; a = gridPoint x y; b = gridPoint x′ y′ })
 unfolding Proper samePoint
 grid-proper s x y x′ y′ e =
     false-by _ (λ k. no-path (sym e ∙ and-b _ _

@@ -1,0 +1,10 @@
+pub mod Ledger
+pub mod Kept
+pub mod Held
+pub mod Stands
+pub mod Restores
+pub mod Equal
+pub mod Remains
+pub mod Sizes
+pub mod Answers
+pub mod Demand
