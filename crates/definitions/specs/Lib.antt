@@ -5,4 +5,3 @@ pub mod Calls
 pub mod Lookup
 pub mod History
 pub mod Meaning
-pub mod Cases

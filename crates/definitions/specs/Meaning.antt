@@ -10,7 +10,7 @@ use Rattle.algebra.specs.Words.{Rising}
 use Rattle.definitions.specs.declared.Point.{Point}
 use Rattle.definitions.specs.Shape.{Line, Block, east, north, nwOf, neOf, swOf, seOf, gridPoint, minX, maxX, minY, maxY}
 use Rattle.definitions.specs.Tree.{Rule, Tree, leaf, divided}
-use Rattle.definitions.specs.Tables.{Tables, live, generation, x1, y1, x2, y2, leftLabel, rightLabel, lineAt, nodeTable, listingTable}
+use Rattle.definitions.specs.Tables.{Tables, entry, live, generation, x1, y1, x2, y2, lineAt, nodeTable, listingTable}
 use Rattle.definitions.specs.Lookup.{westEnd, eastEnd, run, upperLabel}
 
 -- ---- A common point
@@ -113,21 +113,12 @@ pub record Live (lines : List ℕ) (s : ℕ) : Type 0 where
 pub record LiveSlot (lines : List ℕ) (s : ℕ) : Type 0 where
   pub lives : live lines s ≡ 1
   pub given : 1 ≤ generation lines s
-  pub gridX1 : x1 lines s ≤ 16383
-  pub gridY1 : y1 lines s ≤ 16383
-  pub gridX2 : x2 lines s ≤ 16383
-  pub gridY2 : y2 lines s ≤ 16383
-  pub distinct : x1 lines s ≡ x2 lines s → y1 lines s ≡ y2 lines s → ⊥
+  pub onGrid : (x1 lines s ≤ 16383) × (y1 lines s ≤ 16383) × (x2 lines s ≤ 16383) × (y2 lines s ≤ 16383)
+  pub distinct : (x1 lines s ≡ x2 lines s) × (y1 lines s ≡ y2 lines s) → ⊥
 
--- a slot that isn't live has 0 in all but its generation
-pub record EmptySlot (lines : List ℕ) (s : ℕ) : Type 0 where
-  pub notLive : live lines s ≡ 0
-  pub noX1 : x1 lines s ≡ 0
-  pub noY1 : y1 lines s ≡ 0
-  pub noX2 : x2 lines s ≡ 0
-  pub noY2 : y2 lines s ≡ 0
-  pub noLeft : leftLabel lines s ≡ 0
-  pub noRight : rightLabel lines s ≡ 0
+-- a slot that isn't live keeps its generation and has 0 in the other seven
+abbrev pub EmptySlot : List ℕ → ℕ → Type 0
+EmptySlot lines s = (k : ℕ) → k < 8 → (k ≡ 1 → ⊥) → entry lines s k ≡ 0
 
 pub record SoundMap (rule : Rule) (t : Tables) : Type 0 where
   pub slots : (s : ℕ) → s < length (t .lines) / 8 → LiveSlot (t .lines) s ⊎ EmptySlot (t .lines) s

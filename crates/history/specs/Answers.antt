@@ -1,5 +1,20 @@
 -- After any calls a map is sound, and a deleted number is refused with 8.
+use Rattle.definitions.specs.declared.Answer.the-variants.{Done, UnknownHandle}
 use Rattle.definitions.specs.declared.Given.{Given}
+use Rattle.algebra.specs.Lists.{padded-length}
+use Rattle.algebra.specs.Tests.{and-l, and-r}
+use Rattle.definitions.specs.Calls.{Reply, refusalOf, cleared, insertOf, deleteOf, rebuilt, freed, known}
+use Rattle.definitions.specs.History.{Call, insert, delete, locate, show, replyTo, afterAll}
+use Rattle.definitions.specs.Tables.{Tables, lengthsFit, sound, nodeTable, listingTable}
+use Rattle.definitions.specs.Tree.{Rule}
+use Rattle.meaning.specs.Fair.{Fair}
+use Rattle.meaning.specs.Rules.{fewer}
+use Rattle.meaning.specs.Slots.{as-long′}
+use Rattle.meaning.specs.Sound.{Sound, sound←, fits-nodes, fits-listings}
+use Rattle.history.specs.Held.{known-live}
+use Rattle.history.specs.Kept.{Outcome, kept, took, insert-outcome, insert-sound, delete-sound, start-sound, calls-sound, sub-freed}
+use Rattle.history.specs.Ledger.{known-there, Deleted, delete-is, refused-ever-after, Deleted.refused as d-refused, Deleted.removed as d-removed}
+use Rattle.history.specs.Restores.{fit-new, delete-done}
 use mathlib.Core.Path.{_≡_, refl}
 use mathlib.Core.Bool.{Bool, true, false, _&&_}
 use mathlib.Core.List.{List, [], _∷_}
@@ -8,20 +23,6 @@ use native.Mathlib.Omega.{arith}
 use lib.Dec.{leb, eqb}
 use lib.ListN.{length, length-replicate}
 use borrow.Author.Tests.{leb-true}
-use Rattle.definitions.specs.declared.Answer.the-variants.{Done, UnknownHandle}
-use Rattle.algebra.specs.Lists.{padded-length}
-use Rattle.algebra.specs.Tests.{and-l, and-r}
-use Rattle.definitions.specs.Calls.{Reply, refusalOf, cleared, insertOf, deleteOf, rebuilt, freed, known}
-use Rattle.definitions.specs.History.{Call, insert, delete, locate, show, replyTo, afterAll}
-use Rattle.definitions.specs.Tables.{Tables, lengthsFit, sound, nodeTable, listingTable}
-use Rattle.definitions.specs.Tree.{Rule, Fair}
-use Rattle.meaning.specs.Rules.{fewer}
-use Rattle.meaning.specs.Slots.{as-long′}
-use Rattle.meaning.specs.Sound.{Sound, sound←, fits-nodes, fits-listings}
-use Rattle.history.specs.Held.{known-live}
-use Rattle.history.specs.Kept.{Outcome, kept, took, insert-outcome, insert-sound, delete-sound, start-sound, calls-sound, sub-freed}
-use Rattle.history.specs.Ledger.{known-there, Deleted, delete-is, refused-ever-after, Deleted.refused as d-refused, Deleted.removed as d-removed}
-use Rattle.history.specs.Restores.{fit-new, delete-done}
 
 -- a map of these lengths fits as one of those
 same-fit : (t u : Tables) → length (u .lines) ≡ length (t .lines) → length (u .nodes) ≡ length (t .nodes) → length (u .listings) ≡ length (t .listings) → lengthsFit t ≡ true → lengthsFit u ≡ true

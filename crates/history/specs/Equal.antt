@@ -1,5 +1,21 @@
 -- Equal live lines show equal trees, slot numbers aside.
 use Rattle.definitions.specs.declared.Given.{Given}
+use Rattle.algebra.specs.Lists.{every→}
+use Rattle.algebra.specs.Tests.{no-path, and-b, or-r}
+use Rattle.algebra.specs.Words.{every, Rising, Rising.none as no-slots, Rising.one as first-slot}
+use Rattle.definitions.specs.Calls.{cleared}
+use Rattle.definitions.specs.History.{Call, afterAll}
+use Rattle.definitions.specs.Shape.{within, Line, Block, samePoint, isEnd, conflict, parts, gridPoint}
+use Rattle.definitions.specs.Tables.{Tables, liveSlots, lineAt, liveLines, noneConflict}
+use Rattle.definitions.specs.Tree.{leaf, listed, block, tree, Rule, treeBy}
+use Rattle.meaning.specs.Fair.{SameEnds, Within, Once, noLine, newLine, Fair}
+use Rattle.meaning.specs.Ends.{same-refl}
+use Rattle.meaning.specs.Leaves.{listed-iff}
+use Rattle.meaning.specs.Means.{slots-rising}
+use Rattle.meaning.specs.Rules.{by-leaf, by-divided, sonsBy, meets-ends}
+use Rattle.meaning.specs.Sound.{Sound, sound→}
+use Rattle.history.specs.Demand.{heldAt, givenAt, liveGiven, SameLines, SameShown, Alike, leaves, fours}
+use Rattle.history.specs.Kept.{history-sound}
 use mathlib.Core.Path.{_≡_, refl, sym, _∙_, ap}
 use mathlib.Core.Bool.{Bool, true, false, not, _&&_, _||_}
 use mathlib.Core.List.{List, map, List·Memᴰ, List·Memᴰ·head, List·Memᴰ·tail, Memᴰ·map, Memᴰ·of-map}
@@ -8,20 +24,6 @@ use native.Mathlib.Omega.{arith}
 use lib.Dec.{eqb}
 use lib.ListN.{length}
 use borrow.Author.Tests.{ne-eqb}
-use Rattle.algebra.specs.Lists.{every→}
-use Rattle.algebra.specs.Tests.{no-path, and-b, or-r}
-use Rattle.algebra.specs.Words.{every, Rising, Rising.none as no-slots, Rising.one as first-slot}
-use Rattle.definitions.specs.Calls.{cleared}
-use Rattle.definitions.specs.History.{Call, afterAll, heldAt, givenAt, liveGiven, SameLines, SameShown, Alike, leaves, fours}
-use Rattle.definitions.specs.Shape.{Line, Block, samePoint, isEnd, conflict, within, parts, gridPoint}
-use Rattle.definitions.specs.Tables.{Tables, liveSlots, lineAt, liveLines, noneConflict}
-use Rattle.definitions.specs.Tree.{leaf, listed, block, tree, Rule, treeBy, SameEnds, Within, Once, noLine, newLine, Fair}
-use Rattle.meaning.specs.Ends.{same-refl}
-use Rattle.meaning.specs.Leaves.{listed-iff}
-use Rattle.meaning.specs.Means.{slots-rising}
-use Rattle.meaning.specs.Rules.{by-leaf, by-divided, sonsBy, meets-ends}
-use Rattle.meaning.specs.Sound.{Sound, sound→}
-use Rattle.history.specs.Kept.{history-sound}
 
 given-ends : (a b : List ℕ) (s r : ℕ) → givenAt a s ≡ givenAt b r → SameEnds (lineAt a s) (lineAt b r)
 unfolding heldAt lineAt

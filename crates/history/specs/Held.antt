@@ -1,5 +1,16 @@
 -- The live lines are exactly those that the calls and their answers leave: a running list of what is held.
+use Rattle.definitions.specs.declared.Answer.{Answer}
 use Rattle.definitions.specs.declared.Given.{Given}
+use Rattle.algebra.specs.Lists.{in-those, of-those, in-upFrom, to-upFrom}
+use Rattle.algebra.specs.Tests.{no-path, and-l, and-r}
+use Rattle.algebra.specs.Words.{those, upFrom, if_then_else_}
+use Rattle.definitions.specs.Calls.{withSlot, Reply, refusalOf, detailOf, cleared, rebuilt, placed, freed, freeSlots, known}
+use Rattle.definitions.specs.History.{Call, insert, delete, locate, show, replyTo, afterAll}
+use Rattle.definitions.specs.Tables.{entry, Tables, live, generation, isLive, slotsOf, liveSlots}
+use Rattle.definitions.specs.Tree.{Rule}
+use Rattle.meaning.specs.Slots.{put, bare, other-slot, same-or-not, zero-at, zero-dead, gift-lives, as-long, others-live, others-gen, put-at, bare-at, bare-dead, as-long′, rest-live, rest-gen}
+use Rattle.history.specs.Demand.{Held, Heard, heard, heldAt, liveHeld}
+use Rattle.history.specs.Ledger.{Inserted, Free, free-first, insert-is, Deleted, delete-is, known-there, Inserted.refused as i-refused, Inserted.taken as i-taken, Deleted.refused as d-refused, Deleted.removed as d-removed}
 use mathlib.Core.Path.{_≡_, refl, sym, _∙_, ap}
 use mathlib.Core.Logic.{_⊎_, inl, inr, _↔_}
 use mathlib.Core.Bool.{Bool, true, false, not, _&&_}
@@ -7,18 +18,8 @@ use mathlib.Core.List.{List, [], _∷_, map, List·Memᴰ, List·Memᴰ·head, L
 use Prim.Native.Nat.{ℕ, _+_, _*_, _/_, _%_, _≤_, _<_}
 use native.Mathlib.Omega.{arith}
 use lib.Dec.{ltb, eqb}
-use lib.ListN.{length, replicate}
+use lib.ListN.{getD, length, replicate}
 use borrow.Author.Tests.{eqb-true, eqb-false, ne-eqb, not-true}
-use Rattle.definitions.specs.declared.Answer.{Answer}
-use Rattle.algebra.specs.Lists.{in-those, of-those, in-upFrom, to-upFrom}
-use Rattle.algebra.specs.Tests.{no-path, and-l, and-r}
-use Rattle.algebra.specs.Words.{those, upFrom, if_then_else_}
-use Rattle.definitions.specs.Calls.{Reply, refusalOf, detailOf, cleared, rebuilt, placed, freed, freeSlots, known}
-use Rattle.definitions.specs.History.{Call, insert, delete, locate, show, replyTo, afterAll, Held, Heard, heard, heldAt, liveHeld}
-use Rattle.definitions.specs.Tables.{Tables, live, generation, isLive, slotsOf, liveSlots}
-use Rattle.definitions.specs.Tree.{Rule}
-use Rattle.meaning.specs.Slots.{same-or-not, zero-at, zero-dead, gift, gift-is, gift-lives, as-long, others-live, others-held, others-gen, put-at, bare-at, bare-dead, as-long′, rest-live, rest-held, rest-gen}
-use Rattle.history.specs.Ledger.{Inserted, Free, free-first, insert-is, Deleted, delete-is, known-there, Inserted.refused as i-refused, Inserted.taken as i-taken, Deleted.refused as d-refused, Deleted.removed as d-removed}
 
 -- the lines held after one more call: an accepted insert adds its line under the number it gave, an accepted delete takes that number out
 unfoldable pub heldAfter : List Held → Call → Answer → List Held
@@ -61,12 +62,42 @@ Young lines = (x : ℕ) → generation lines x ≤ 65535
 abbrev pub Same : List Held → List Held → Type 0
 Same is js = (i : Held) → List·Memᴰ i is ↔ List·Memᴰ i js
 
+-- the other slots as they were
+module _ (lines new : List ℕ) (s : ℕ) (eight : length new ≡ 8) (fits : 8 * s + 8 ≤ length lines) (x : ℕ) (other : x ≡ s → ⊥) where
+  held-other : heldAt (withSlot lines s new) x ≡ heldAt lines x
+  unfolding heldAt
+  held-other = rw (at 1 (omega arith), at 2 (omega arith), at 3 (omega arith), at 4 (omega arith), at 5 (omega arith), at 6 (omega arith), at 7 (omega arith)) refl
+    where
+      at : (k : ℕ) → k < 8 → entry (withSlot lines s new) x k ≡ entry lines x k
+      at k h = other-slot lines new s eight fits x k h other
+
+-- what an insert adds
+abbrev gift : List ℕ → Given → ℕ → Held
+gift lines g s = record { handle = s * 65536 + (generation lines s + 1); line = g }
+
+module _ (lines : List ℕ) (g : Given) (s : ℕ) (fits : 8 * s + 8 ≤ length lines) where
+  gift-is : heldAt (placed lines s g) s ≡ gift lines g s
+  unfolding heldAt
+  gift-is = rw (at 1 (omega arith), at 2 (omega arith), at 3 (omega arith), at 4 (omega arith), at 5 (omega arith), at 6 (omega arith), at 7 (omega arith)) refl
+    where
+      at : (k : ℕ) → k < 8 → entry (placed lines s g) s k ≡ getD (put lines g s fits) k 0
+      at = put-at lines g s fits
+
+  others-held : (x : ℕ) → (x ≡ s → ⊥) → heldAt (placed lines s g) x ≡ heldAt lines x
+  unfolding placed
+  others-held x d = held-other lines (put lines g s fits) s refl fits x d
+
+module _ (lines : List ℕ) (s : ℕ) (fits : 8 * s + 8 ≤ length lines) where
+  rest-held : (x : ℕ) → (x ≡ s → ⊥) → heldAt (freed lines s) x ≡ heldAt lines x
+  unfolding freed
+  rest-held x d = held-other lines (bare lines s fits) s refl fits x d
+
 -- Insert
 module _ (lines : List ℕ) (g : Given) (s : ℕ) (free : Free lines s) (dead : isLive lines s ≡ false) where
-  insert→ : (i : Held) → LiveAt (placed lines s g) i → (i ≡ (gift lines g s (free .there))) ⊎ LiveAt lines i
+  insert→ : (i : Held) → LiveAt (placed lines s g) i → (i ≡ gift lines g s) ⊎ LiveAt lines i
   insert→ i a = go (same-or-not (a .slot) s)
     where
-      go : (a .slot ≡ s) ⊎ (a .slot ≡ s → ⊥) → (i ≡ (gift lines g s (free .there))) ⊎ LiveAt lines i
+      go : (a .slot ≡ s) ⊎ (a .slot ≡ s → ⊥) → (i ≡ gift lines g s) ⊎ LiveAt lines i
       go (inl e) = inl (a .is ∙ ap (heldAt (placed lines s g)) e ∙ (gift-is lines g s (free .there)))
       go (inr d) =
           inr (record {
@@ -76,7 +107,7 @@ module _ (lines : List ℕ) (g : Given) (s : ℕ) (free : Free lines s) (dead : 
             is = a .is ∙ others-held lines g s (free .there) (a .slot) d;
           })
 
-  insert← : (i : Held) → (i ≡ (gift lines g s (free .there))) ⊎ LiveAt lines i → LiveAt (placed lines s g) i
+  insert← : (i : Held) → (i ≡ gift lines g s) ⊎ LiveAt lines i → LiveAt (placed lines s g) i
   insert← i (inl e) = record { slot = s; there = rw (as-long lines g s (free .there)) (omega (arith, free .there)); lives = (gift-lives lines g s (free .there)); is = e ∙ sym (gift-is lines g s (free .there)) }
   insert← i (inr a) =
       record {
@@ -197,17 +228,17 @@ module _ (rule : Rule) where
       d : isLive (t .lines) s ≡ false
       d = free-dead (t .lines) s more e
 
-      there : (i : Held) → List·Memᴰ i (liveHeld (placed (t .lines) s g)) → List·Memᴰ i (gift (t .lines) g s (f .there) ∷ held)
+      there : (i : Held) → List·Memᴰ i (liveHeld (placed (t .lines) s g)) → List·Memᴰ i (gift (t .lines) g s ∷ held)
       there i m = go (insert→ (t .lines) g s f d i (live-iff (placed (t .lines) s g) i .0 m))
         where
-          go : (i ≡ gift (t .lines) g s (f .there)) ⊎ LiveAt (t .lines) i → List·Memᴰ i (gift (t .lines) g s (f .there) ∷ held)
+          go : (i ≡ gift (t .lines) g s) ⊎ LiveAt (t .lines) i → List·Memᴰ i (gift (t .lines) g s ∷ held)
           go (inl q) = List·Memᴰ·head q
           go (inr q) = List·Memᴰ·tail (a .same i .0 (live-iff (t .lines) i .1 q))
 
-      back : (i : Held) → List·Memᴰ i (gift (t .lines) g s (f .there) ∷ held) → List·Memᴰ i (liveHeld (placed (t .lines) s g))
+      back : (i : Held) → List·Memᴰ i (gift (t .lines) g s ∷ held) → List·Memᴰ i (liveHeld (placed (t .lines) s g))
       back i m = live-iff (placed (t .lines) s g) i .1 (insert← (t .lines) g s f d i (go m))
         where
-          go : List·Memᴰ i (gift (t .lines) g s (f .there) ∷ held) → (i ≡ gift (t .lines) g s (f .there)) ⊎ LiveAt (t .lines) i
+          go : List·Memᴰ i (gift (t .lines) g s ∷ held) → (i ≡ gift (t .lines) g s) ⊎ LiveAt (t .lines) i
           go (List·Memᴰ·head q) = inl q
           go (List·Memᴰ·tail q) = inr (live-iff (t .lines) i .0 (a .same i .1 q))
 

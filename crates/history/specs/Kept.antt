@@ -1,5 +1,21 @@
 -- Insert and delete keep a map sound, and so do any calls after a start.
+use Rattle.definitions.specs.declared.Answer.{Answer}
+use Rattle.definitions.specs.declared.Answer.the-variants.{Done, Lengths, Damaged, OffGrid, NoLength, Conflict, NoSlot, NoRoom}
 use Rattle.definitions.specs.declared.Given.{Given}
+use Rattle.algebra.specs.Lists.{those-yes, those-no, of-those, in-those, every→, every←, padded-length}
+use Rattle.algebra.specs.Tests.{no-path, and-l, and-r, and-b, or-l, or-r, false-by}
+use Rattle.algebra.specs.Words.{those, every, if_then_else_, padded}
+use Rattle.definitions.specs.Calls.{cleared, givenLine, Reply, reply, refusalOf, insertOf, deleteOf, rebuilt, placed, freed, allOnGrid, noLength, conflicting, freeSlots, roomFor, known}
+use Rattle.definitions.specs.History.{Call, insert, delete, locate, show, replyTo, afterAll}
+use Rattle.definitions.specs.Shape.{within, Line, conflict, on, isEnd, parts, leftOf, rightOf}
+use Rattle.definitions.specs.Tables.{Tables, generation, x1, y1, x2, y2, isLive, slotsOf, liveSlots, lineAt, liveLines, onGrid, liveSound, emptySound, slotSound, noneConflict, nodeTable, listingTable, lengthsFit, sound}
+use Rattle.definitions.specs.Tree.{leaf, listed, tree, nodesOf, listingsOf, Rule}
+use Rattle.meaning.specs.Fair.{Sub, none, keep, skip, Fair}
+use Rattle.meaning.specs.Crossing.{Proper}
+use Rattle.meaning.specs.Rules.{fewer, by-leaf}
+use Rattle.meaning.specs.Slots.{same-or-not, freed-slots, rest-sound, rest-live, placed-slots, others-sound, others-live, others-line, bare-at, bare-dead, rest-line, put-at, gift-lives, new-line, zero-at, none-live, no-lines}
+use Rattle.meaning.specs.Sound.{Sound, sound←, fits-nodes, fits-listings, conflict-back, grid-proper, live-proper}
+use Rattle.history.specs.Ledger.{free-first, Deleted, refused, removed, delete-is, known-there}
 use mathlib.Core.Path.{_≡_, refl, sym, _∙_, ap, subst}
 use mathlib.Core.Logic.{_⊎_, inl, inr}
 use mathlib.Core.Bool.{Bool, true, false, not, _&&_, _||_}
@@ -9,21 +25,6 @@ use native.Mathlib.Omega.{arith}
 use lib.Dec.{leb, ltb, eqb}
 use lib.ListN.{length, replicate, length-replicate}
 use borrow.Author.Tests.{leb-true, le-leb, eq-eqb}
-use Rattle.definitions.specs.declared.Answer.{Answer}
-use Rattle.definitions.specs.declared.Answer.the-variants.{Done, Lengths, Damaged, OffGrid, NoLength, Conflict, NoSlot, NoRoom}
-use Rattle.algebra.specs.Lists.{those-yes, those-no, of-those, in-those, every→, every←, padded-length}
-use Rattle.algebra.specs.Tests.{no-path, and-l, and-r, and-b, or-l, or-r, false-by}
-use Rattle.algebra.specs.Words.{those, every, if_then_else_, padded}
-use Rattle.definitions.specs.Calls.{cleared, givenLine, Reply, reply, refusalOf, insertOf, deleteOf, rebuilt, placed, freed, allOnGrid, noLength, conflicting, freeSlots, roomFor, known}
-use Rattle.definitions.specs.History.{Call, insert, delete, locate, show, replyTo, afterAll}
-use Rattle.definitions.specs.Shape.{Line, conflict, within, on, isEnd, parts, leftOf, rightOf}
-use Rattle.definitions.specs.Tables.{Tables, generation, x1, y1, x2, y2, isLive, slotsOf, liveSlots, lineAt, liveLines, onGrid, liveSound, emptySound, slotSound, noneConflict, nodeTable, listingTable, lengthsFit, sound}
-use Rattle.definitions.specs.Tree.{leaf, listed, tree, nodesOf, listingsOf, Sub, none, keep, skip, Rule, Fair}
-use Rattle.meaning.specs.Crossing.{Proper}
-use Rattle.meaning.specs.Rules.{fewer, by-leaf}
-use Rattle.meaning.specs.Slots.{same-or-not, freed-slots, rest-sound, rest-live, placed-slots, others-sound, others-live, others-line, bare-at, bare-dead, rest-line, put-at, gift-lives, new-line, zero-at, none-live, no-lines}
-use Rattle.meaning.specs.Sound.{Sound, sound←, fits-nodes, fits-listings, conflict-back, grid-proper, live-proper}
-use Rattle.history.specs.Ledger.{free-first, Deleted, refused, removed, delete-is, known-there}
 
 -- Delete
 module _ (lines : List ℕ) (s : ℕ) (fits : 8 * s + 8 ≤ length lines) where

@@ -1,5 +1,17 @@
 -- No number is given twice, and a deleted number is refused ever after.
+use Rattle.definitions.specs.declared.Answer.{Answer}
+use Rattle.definitions.specs.declared.Answer.the-variants.{Done, Lengths, Damaged, OffGrid, NoLength, Conflict, NoSlot, NoRoom, UnknownHandle}
 use Rattle.definitions.specs.declared.Given.{Given}
+use Rattle.algebra.specs.Lists.{in-upFrom, of-those}
+use Rattle.algebra.specs.Tests.{and-r, no-path}
+use Rattle.algebra.specs.Words.{upFrom, if_then_else_}
+use Rattle.definitions.specs.Calls.{Reply, reply, refusalOf, insertOf, deleteOf, rebuilt, placed, freed, allOnGrid, noLength, conflicting, freeSlots, roomFor, known}
+use Rattle.definitions.specs.History.{Call, insert, delete, locate, show, replyTo, afterAll}
+use Rattle.definitions.specs.Tables.{Tables, entry, generation, isLive, slotsOf, lengthsFit, sound}
+use Rattle.definitions.specs.Tree.{Rule}
+use Rattle.meaning.specs.Compare.{order}
+use Rattle.meaning.specs.Slots.{same-or-not, in-slot, other-slot, lives-other as live-other, bare-dead as freed-dead}
+use Rattle.history.specs.Demand.{givenNow, givenBy, Distinct, Distinct.none, Distinct.one}
 use mathlib.Core.Path.{_≡_, refl, sym, _∙_, subst}
 use mathlib.Core.Logic.{_⊎_, inl, inr}
 use mathlib.Core.Bool.{Bool, true, false, not, _&&_}
@@ -8,17 +20,6 @@ use Prim.Native.Nat.{ℕ, _+_, _*_, _-_, _/_, _%_, _≤_, _<_}
 use native.Mathlib.Omega.{arith}
 use lib.Dec.{ltb, eqb}
 use lib.ListN.{length}
-use Rattle.definitions.specs.declared.Answer.{Answer}
-use Rattle.definitions.specs.declared.Answer.the-variants.{Done, Lengths, Damaged, OffGrid, NoLength, Conflict, NoSlot, NoRoom, UnknownHandle}
-use Rattle.algebra.specs.Lists.{in-upFrom, of-those}
-use Rattle.algebra.specs.Tests.{and-r, no-path}
-use Rattle.algebra.specs.Words.{upFrom, if_then_else_}
-use Rattle.definitions.specs.Calls.{Reply, reply, refusalOf, insertOf, deleteOf, rebuilt, placed, freed, allOnGrid, noLength, conflicting, freeSlots, roomFor, known}
-use Rattle.definitions.specs.History.{Call, insert, delete, locate, show, replyTo, afterAll, givenNow, givenBy, Distinct, Distinct.none, Distinct.one}
-use Rattle.definitions.specs.Tables.{Tables, entry, generation, isLive, slotsOf, lengthsFit, sound}
-use Rattle.definitions.specs.Tree.{Rule}
-use Rattle.meaning.specs.Compare.{order}
-use Rattle.meaning.specs.Slots.{same-or-not, in-slot, other-slot, lives-other as live-other, bare-dead as freed-dead}
 use borrow.Author.Tests.{ltb-true, eqb-true}
 
 -- what a free slot is

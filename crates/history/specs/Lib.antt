@@ -1,3 +1,4 @@
+pub mod Demand
 pub mod Ledger
 pub mod Kept
 pub mod Held
@@ -7,4 +8,4 @@ pub mod Equal
 pub mod Remains
 pub mod Sizes
 pub mod Answers
-pub mod Demand
+pub mod Holds

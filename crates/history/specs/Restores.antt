@@ -1,5 +1,20 @@
 -- An accepted insert followed at once by its delete restores both tree tables.
+use Rattle.definitions.specs.declared.Answer.{Answer}
+use Rattle.definitions.specs.declared.Answer.the-variants.{Done}
 use Rattle.definitions.specs.declared.Given.{Given}
+use Rattle.algebra.specs.Lists.{those-yes, those-no, padded-length}
+use Rattle.algebra.specs.Tests.{no-path, and-l, and-r, and-b}
+use Rattle.algebra.specs.Words.{those, upFrom}
+use Rattle.definitions.specs.Calls.{Reply, reply, refusalOf, insertOf, deleteOf, rebuilt, placed, freed, roomFor, known}
+use Rattle.definitions.specs.Tables.{Tables, generation, isLive, slotsOf, liveSlots, lineAt, liveLines, nodeTable, listingTable, lengthsFit, sound}
+use Rattle.definitions.specs.Tree.{tree, nodesOf, listingsOf, Rule}
+use Rattle.meaning.specs.Fair.{Fair}
+use Rattle.meaning.specs.Slots.{same-or-not, put-at, as-long, others-live, others-line, rest-line, gift-lives, rest-live, bare-dead, as-long′}
+use Rattle.meaning.specs.Sound.{Sound, sound→, sound←}
+use Rattle.history.specs.Demand.{Restored}
+use Rattle.history.specs.Held.{free-dead}
+use Rattle.history.specs.Kept.{Passed, Outcome, kept, took, insert-outcome, insert-sound}
+use Rattle.history.specs.Ledger.{Free, free-first}
 use mathlib.Core.Path.{_≡_, refl, sym, _∙_, ap, subst}
 use mathlib.Core.Logic.{_⊎_, inl, inr}
 use mathlib.Core.Bool.{Bool, true, false}
@@ -9,20 +24,6 @@ use native.Mathlib.Omega.{arith}
 use lib.Dec.{leb}
 use lib.ListN.{length}
 use borrow.Author.Tests.{leb-true, lt-ltb, eq-eqb}
-use Rattle.definitions.specs.declared.Answer.{Answer}
-use Rattle.definitions.specs.declared.Answer.the-variants.{Done}
-use Rattle.algebra.specs.Lists.{those-yes, those-no, padded-length}
-use Rattle.algebra.specs.Tests.{no-path, and-l, and-r, and-b}
-use Rattle.algebra.specs.Words.{those, upFrom}
-use Rattle.definitions.specs.Calls.{Reply, reply, refusalOf, insertOf, deleteOf, rebuilt, placed, freed, roomFor, known}
-use Rattle.definitions.specs.History.{Restored}
-use Rattle.definitions.specs.Tables.{Tables, generation, isLive, slotsOf, liveSlots, lineAt, liveLines, nodeTable, listingTable, lengthsFit, sound}
-use Rattle.definitions.specs.Tree.{tree, nodesOf, listingsOf, Rule, Fair}
-use Rattle.meaning.specs.Slots.{same-or-not, put-at, as-long, others-live, others-line, rest-line, gift-lives, rest-live, bare-dead, as-long′}
-use Rattle.meaning.specs.Sound.{Sound, sound→, sound←}
-use Rattle.history.specs.Held.{free-dead}
-use Rattle.history.specs.Kept.{Passed, Outcome, kept, took, insert-outcome, insert-sound}
-use Rattle.history.specs.Ledger.{Free, free-first}
 
 -- two line tables that have the same live slots and lines
 those-same : {A : Type 0} (p q : A → Bool) → ((x : A) → p x ≡ q x) → (xs : List A) → those p xs ≡ those q xs

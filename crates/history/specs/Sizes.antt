@@ -8,13 +8,14 @@ use native.Mathlib.Omega.{arith}
 use lib.ListN.{length}
 use Rattle.algebra.specs.Lists.{in-those, of-those}
 use Rattle.algebra.specs.Words.{those, padded}
-use Rattle.definitions.specs.History.{SameLines}
 use Rattle.definitions.specs.Shape.{Line, Block, meets}
 use Rattle.definitions.specs.Tables.{Tables, liveLines, nodeTable}
-use Rattle.definitions.specs.Tree.{Tree, leaf, divided, listed, block, tree, nodesOf, listingsOf, Rule, treeBy, SameEnds, Within, Once, Fair, noLine, newLine}
+use Rattle.definitions.specs.Tree.{Tree, leaf, divided, listed, block, tree, nodesOf, listingsOf, Rule, treeBy}
+use Rattle.meaning.specs.Fair.{SameEnds, Within, Once, Fair, noLine, newLine}
 use Rattle.meaning.specs.Fewer.{listed-length, listings4}
 use Rattle.meaning.specs.Rules.{by-leaf, by-divided, sonsBy, meets-ends, once-those}
 use Rattle.meaning.specs.Sound.{Sound}
+use Rattle.history.specs.Demand.{SameLines}
 use Rattle.history.specs.Equal.{partner-line, apart-once}
 use mathlib.Core.Path.{_≡_, refl, sym, _∙_, ap}
 use mathlib.Core.Logic.{_⊎_, inl, inr}

@@ -1,5 +1,15 @@
 -- The live lines are exactly those inserted and not since deleted.
+use Rattle.definitions.specs.declared.Answer.{Answer}
+use Rattle.definitions.specs.declared.Answer.the-variants.{Done, Lengths, Damaged, OffGrid, NoLength, Conflict, NoSlot, NoRoom, UnknownHandle}
 use Rattle.definitions.specs.declared.Given.{Given}
+use Rattle.algebra.specs.Lists.{in-those, of-those}
+use Rattle.algebra.specs.Words.{those, if_then_else_}
+use Rattle.definitions.specs.Calls.{refusalOf, detailOf, cleared}
+use Rattle.definitions.specs.History.{Call, insert, delete, locate, show, afterAll}
+use Rattle.definitions.specs.Tables.{Tables}
+use Rattle.definitions.specs.Tree.{Rule}
+use Rattle.history.specs.Demand.{Held, Heard, heard, liveHeld, Gave, Took, NeverTook, Stands, now, after}
+use Rattle.history.specs.Held.{heldAfter, heldBy, live-exact}
 use mathlib.Core.Path.{_≡_, refl, sym, _∙_, ap}
 use mathlib.Core.Logic.{_⊎_, inl, inr, _↔_}
 use mathlib.Core.Bool.{Bool, true, false, not}
@@ -8,15 +18,6 @@ use Prim.Native.Nat.{ℕ}
 use native.Mathlib.Omega.{arith}
 use lib.Dec.{eqb}
 use borrow.Author.Tests.{eqb-true, eq-eqb, eqb-false, ne-eqb, not-true}
-use Rattle.definitions.specs.declared.Answer.{Answer}
-use Rattle.definitions.specs.declared.Answer.the-variants.{Done, Lengths, Damaged, OffGrid, NoLength, Conflict, NoSlot, NoRoom, UnknownHandle}
-use Rattle.algebra.specs.Lists.{in-those, of-those}
-use Rattle.algebra.specs.Words.{those, if_then_else_}
-use Rattle.definitions.specs.Calls.{refusalOf, detailOf, cleared}
-use Rattle.definitions.specs.History.{Call, insert, delete, locate, show, afterAll, Held, Heard, heard, liveHeld, Gave, Took, NeverTook, Stands, now, after}
-use Rattle.definitions.specs.Tables.{Tables}
-use Rattle.definitions.specs.Tree.{Rule}
-use Rattle.history.specs.Held.{heldAfter, heldBy, live-exact}
 
 done-is : (r : Answer) → refusalOf r ≡ 0 → r ≡ Done (detailOf r)
 done-is (Done d) e = refl

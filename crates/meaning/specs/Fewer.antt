@@ -12,7 +12,8 @@ use Rattle.algebra.specs.Tests.{and-l, and-r, and-b}
 use Rattle.algebra.specs.Words.{those, every}
 use Rattle.definitions.specs.Meaning.{Meets}
 use Rattle.definitions.specs.Shape.{Line, Block, meets, inside, samePoint, isEnd}
-use Rattle.definitions.specs.Tree.{endsOf, simpleWith, simple, Tree, leaf, divided, listed, block, nodesOf, listingsOf, Sub, none, keep, skip}
+use Rattle.definitions.specs.Tree.{endsOf, simpleWith, simple, Tree, leaf, divided, listed, block, nodesOf, listingsOf}
+use Rattle.meaning.specs.Fair.{Sub, none, keep, skip}
 use Rattle.meaning.specs.Blocks.{double}
 use Rattle.meaning.specs.Compare.{order}
 use Rattle.meaning.specs.Ends.{same-refl, same-path, end-cases}

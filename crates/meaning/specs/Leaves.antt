@@ -54,7 +54,6 @@ listed-iff lines k s = (there, back)
     back (m, e) =
         Memᴰ·cast (sym (slot-of-line lines s)) (Memᴰ·map (λ (l : Line). l .slot) (in-those (meets k) (map (lineAt lines) (liveSlots lines)) (Memᴰ·map (lineAt lines) m) e))
 
-
 module _ (n w s : ℕ) {a b c d : Tree} {j : Block} {list : List ℕ} where
   pub to-nw : LeafAt (block n w (s + 2 ^ suc n)) a j list → LeafAt (block (suc n) w s) (divided a b c d) j list
   to-nw h = inNW (subst (λ (k : Block). LeafAt k a j list) (sym (nw-is n w s)) h)

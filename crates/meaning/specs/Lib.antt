@@ -1,3 +1,4 @@
+pub mod Fair
 pub mod Blocks
 pub mod Turns
 pub mod Compare

@@ -11,7 +11,8 @@ use Rattle.algebra.specs.Lists.{in-those, of-those}
 use Rattle.algebra.specs.Tests.{no-path, both-ways}
 use Rattle.algebra.specs.Words.{those}
 use Rattle.definitions.specs.Shape.{Line, Block, meets, corners, leftOf, rightOf, isEnd}
-use Rattle.definitions.specs.Tree.{endsOf, simple, Tree, leaf, divided, listed, block, tree, nodesOf, listingsOf, Rule, treeBy, baseRule, Sub, SameEnds, Within, Once, Fair, noLine, newLine}
+use Rattle.definitions.specs.Tree.{endsOf, simple, Tree, leaf, divided, listed, block, tree, nodesOf, listingsOf, Rule, treeBy, baseRule}
+use Rattle.meaning.specs.Fair.{Sub, SameEnds, Within, Once, Fair, noLine, newLine}
 use Rattle.meaning.specs.Fewer.{sub-those, fewer-simple, Smaller, four-smaller, some-node, leaf-listings, covered, a-son, listings4, Simple, simple→, simple←, in-ends-a, in-ends-b}
 
 pub by-leaf : (rule : Rule) (lines : List Line) (n w s : ℕ) → rule (block (suc n) w s) lines ≡ true

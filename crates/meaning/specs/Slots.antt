@@ -3,7 +3,6 @@ use Rattle.definitions.specs.declared.Given.{Given}
 use Rattle.algebra.specs.Lists.{those-no}
 use Rattle.algebra.specs.Words.{those, upFrom}
 use Rattle.definitions.specs.Calls.{placed, freed, withSlot, givenLine}
-use Rattle.definitions.specs.History.{Held, heldAt}
 use Rattle.definitions.specs.Tables.{entry, generation, isLive, slotsOf, x1, y1, x2, y2, liveSlots, lineAt, liveLines, liveSound, emptySound, slotSound}
 use Rattle.meaning.specs.Compare.{order}
 use mathlib.Core.Path.{_≡_, refl, _∙_, ap, subst}
@@ -90,10 +89,6 @@ module _ (lines new : List ℕ) (s : ℕ) (eight : length new ≡ 8) (fits : 8 *
     unfolding lineAt
     line-other = rw (at 2 (omega arith), at 3 (omega arith), at 4 (omega arith), at 5 (omega arith)) refl
 
-    pub held-other : heldAt (withSlot lines s new) x ≡ heldAt lines x
-    unfolding heldAt
-    held-other = rw (at 1 (omega arith), at 2 (omega arith), at 3 (omega arith), at 4 (omega arith), at 5 (omega arith), at 6 (omega arith), at 7 (omega arith)) refl
-
 pub same-or-not : (x s : ℕ) → (x ≡ s) ⊎ (x ≡ s → ⊥)
 same-or-not x s = go (order x s) (order s x)
   where
@@ -107,16 +102,9 @@ module _ (lines : List ℕ) (g : Given) (s : ℕ) (fits : 8 * s + 8 ≤ length l
   abbrev pub put : List ℕ
   put = 1 ∷ (generation lines s + 1) ∷ g .x1 ∷ g .y1 ∷ g .x2 ∷ g .y2 ∷ g .left ∷ g .right ∷ []
 
-  abbrev pub gift : Held
-  gift = record { handle = s * 65536 + (generation lines s + 1); line = g }
-
   pub put-at : (k : ℕ) → k < 8 → entry (placed lines s g) s k ≡ getD put k 0
   unfolding placed
   put-at k h = in-slot lines _ s refl fits k h
-
-  pub gift-is : heldAt (placed lines s g) s ≡ gift
-  unfolding heldAt
-  gift-is = rw (put-at 1 (omega arith), put-at 2 (omega arith), put-at 3 (omega arith), put-at 4 (omega arith), put-at 5 (omega arith), put-at 6 (omega arith), put-at 7 (omega arith)) refl
 
   pub gift-lives : isLive (placed lines s g) s ≡ true
   unfolding isLive
@@ -143,10 +131,6 @@ module _ (lines : List ℕ) (g : Given) (s : ℕ) (fits : 8 * s + 8 ≤ length l
     unfolding placed
     others-live = lives-other lines put s refl fits x d
 
-    pub others-held : heldAt (placed lines s g) x ≡ heldAt lines x
-    unfolding placed
-    others-held = held-other lines put s refl fits x d
-
     pub others-line : lineAt (placed lines s g) x ≡ lineAt lines x
     unfolding placed
     others-line = line-other lines put s refl fits x d
@@ -157,7 +141,7 @@ module _ (lines : List ℕ) (g : Given) (s : ℕ) (fits : 8 * s + 8 ≤ length l
 
 -- ---- Delete: the slot emptied
 module _ (lines : List ℕ) (s : ℕ) (fits : 8 * s + 8 ≤ length lines) where
-  abbrev bare : List ℕ
+  abbrev pub bare : List ℕ
   bare = 0 ∷ generation lines s ∷ 0 ∷ 0 ∷ 0 ∷ 0 ∷ 0 ∷ 0 ∷ []
 
   pub bare-at : (j : ℕ) → j < 8 → entry (freed lines s) s j ≡ getD bare j 0
@@ -184,10 +168,6 @@ module _ (lines : List ℕ) (s : ℕ) (fits : 8 * s + 8 ≤ length lines) where
     pub rest-live : isLive (freed lines s) x ≡ isLive lines x
     unfolding freed
     rest-live = lives-other lines bare s refl fits x d
-
-    pub rest-held : heldAt (freed lines s) x ≡ heldAt lines x
-    unfolding freed
-    rest-held = held-other lines bare s refl fits x d
 
     pub rest-line : lineAt (freed lines s) x ≡ lineAt lines x
     unfolding freed

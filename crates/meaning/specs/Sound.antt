@@ -116,5 +116,4 @@ module _ (rule : Rule) where
   pub fits-listings : (t : Tables) → Sound t → length (listingsOf (tree rule (liveLines (t .lines)))) ≤ length (t .listings)
   unfolding listingTable
   fits-listings t s = padded-fits _ _ (sym (ap length (s .listings)))
-
   -- Delete keeps a map sound, and always has room
