@@ -22,3 +22,4 @@ pub mod Best
 pub mod Column
 pub mod Walk
 pub mod Locate
+pub mod Plain

@@ -43,7 +43,7 @@ firstSlot [] = Nothing
 firstSlot (l ∷ ls) = At (l .slot)
 
 -- lines that stand at their slots
-first-on-lines : (lines : List ℕ) (p : Point) (ls : List Line) → ((l : Line) → List·Memᴰ l ls → l ≡ lineAt lines (l .slot)) → firstOn lines p (map (λ (l : Line). l .slot) ls) ≡ firstSlot (those (on p) ls)
+pub first-on-lines : (lines : List ℕ) (p : Point) (ls : List Line) → ((l : Line) → List·Memᴰ l ls → l ≡ lineAt lines (l .slot)) → firstOn lines p (map (λ (l : Line). l .slot) ls) ≡ firstSlot (those (on p) ls)
 unfolding firstOn firstSlot those
 first-on-lines lines p [] f = refl
 first-on-lines lines p (l ∷ ls) f = go (on p l) refl (first-on-lines lines p ls (λ n m. f n (List·Memᴰ·tail m)))

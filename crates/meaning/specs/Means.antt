@@ -196,7 +196,7 @@ pub slots-rising : (lines : List ℕ) → Rising (liveSlots lines)
 unfolding liveSlots slotsOf
 slots-rising lines = those-rising (isLive lines) (upFrom-rising 0 _)
 
-slots-back : (lines xs : List ℕ) → map (λ (l : Line). l .slot) (map (lineAt lines) xs) ≡ xs
+pub slots-back : (lines xs : List ℕ) → map (λ (l : Line). l .slot) (map (lineAt lines) xs) ≡ xs
 unfolding lineAt
 slots-back lines [] = refl
 slots-back lines (x ∷ xs) = ap (λ (ys : List ℕ). x ∷ ys) (slots-back lines xs)
