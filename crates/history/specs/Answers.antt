@@ -12,7 +12,8 @@ use Rattle.meaning.specs.Rules.{fewer}
 use Rattle.meaning.specs.Slots.{as-long′}
 use Rattle.meaning.specs.Sound.{Sound, sound←, fits-nodes, fits-listings}
 use Rattle.history.specs.Held.{known-live}
-use Rattle.history.specs.Kept.{Outcome, kept, took, insert-outcome, insert-sound, delete-sound, start-sound, calls-sound, sub-freed}
+use Rattle.meaning.specs.Changes.{sub-freed}
+use Rattle.history.specs.Kept.{Outcome, kept, took, insert-outcome, insert-sound, delete-sound, start-sound, calls-sound}
 use Rattle.history.specs.Ledger.{known-there, Deleted, delete-is, refused-ever-after, Deleted.refused as d-refused, Deleted.removed as d-removed}
 use Rattle.history.specs.Restores.{fit-new, delete-done}
 use mathlib.Core.Path.{_≡_, refl}

@@ -11,6 +11,7 @@ pub mod Rules
 pub mod Means
 pub mod Slots
 pub mod Sound
+pub mod Changes
 pub mod Leaves
 pub mod Apart
 pub mod Show
