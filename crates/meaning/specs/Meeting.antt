@@ -1,151 +1,198 @@
 -- The computed test and the common point: `meets k l` is true exactly if some point of the line lies in the block.
-use mathlib.Core.Path.{_≡_, refl, sym, _∙_, ap, subst}
-use mathlib.Core.Logic.{_↔_}
-use mathlib.Core.Bool.{Bool, true, false, not, _&&_}
-use Prim.Native.Nat.{ℕ, zero, suc, _+_, _*_, _≤_, _<_}
+use mathlib.Core.Path.{_≡_, refl}
+use mathlib.Core.Logic.{_↔_, _⊎_, inl, inr, Iff·trans}
+use mathlib.Core.Bool.{Bool, true}
+use Prim.Native.Nat.{ℕ, _+_, _*_, _-_, _≤_, _<_}
 use native.Mathlib.Omega.{arith}
-use lib.Dec.{leb, ltb}
-use lib.IntN.{ℤ, pos}
-use borrow.Author.Tests.{leb-true, le-leb, lt-ltb, ltb-true}
+use native.Mathlib.Nat.{mul-le-mul-right, mul-lt-mul-of-pos-left, le-of-lt}
+use Rattle.algebra.specs.Order.{mul-le}
 use Rattle.definitions.specs.declared.Point.{Point}
-use Rattle.definitions.specs.Shape.{Line, Block, halfPoint, east, north, minX, maxX, minY, maxY, turn, leftOf, rightOf, corners, meets}
-use Rattle.algebra.specs.Signs.{Is, sub-is, neg-is, add-is, mul-is, shift-is, positive-is, negative-is, equal-of-zero, zero-of-equal}
-use Rattle.meaning.specs.Turns.{lefts, rights, turn-is}
-use Rattle.definitions.specs.Meaning.{Spot, turnAt, OnLine, InBlock, Meets}
-use Rattle.meaning.specs.Clip.{Found, AllLeft, AllRight, clip, not-left, not-right}
-use Rattle.meaning.specs.Compare.{cancelled}
+use Rattle.definitions.specs.Shape.{Line, Block, halfPoint, east, north, minX, maxX, minY, maxY, corners, meets}
+use Rattle.definitions.specs.Meaning.{Spot, Meets}
+use Rattle.meaning.specs.Compare.{order, not-more, cancelled, _·_}
+use Rattle.meaning.specs.Says.{both, unless, le-says, Left, Right, NotLeft, NotRight, left?, right?, left-says, right-says}
+use Rattle.meaning.specs.Segments.{straight-of, back, online-back, mix-line}
+pub use Rattle.meaning.specs.Segments.{turnAt-is}
 
-and-left : (a b : Bool) → a && b ≡ true → a ≡ true
-and-left true b e = refl
-and-left false b e = e
+module _ (k : Block) where
+  -- the four corners
+  abbrev sw : Point
+  sw = halfPoint (k .west) (k .south)
 
-and-right : (a b : Bool) → a && b ≡ true → b ≡ true
-and-right true b e = e
-and-right false b e = absurd (no e)
-  where
-    no : false ≡ true → ⊥
-    no e = let z : _≡_ {A = ℕ} 0 1 = cc in omega arith
+  abbrev se : Point
+  se = halfPoint (east k) (k .south)
 
-four : (a b c d : Bool) → a && b && c && d ≡ true → (a ≡ true) × (b ≡ true) × (c ≡ true) × (d ≡ true)
-four a b c d e =
-    let f = and-left (a && b && c) d e in
-    let g = and-left (a && b) c f in
-    (and-left a b g, and-right a b g, and-right (a && b) c f, and-right (a && b && c) d e)
+  abbrev nw : Point
+  nw = halfPoint (k .west) (north k)
 
-six : (a b c d e f : Bool) → a && b && c && d && e && f ≡ true
-    → (a ≡ true) × (b ≡ true) × (c ≡ true) × (d ≡ true) × (e ≡ true) × (f ≡ true)
-six a b c d e f h =
-    let k = and-left (a && b && c && d && e) f h in
-    let m = four a b c d (and-left (a && b && c && d) e k) in
-    (m .0, m .1, m .2, m .3, and-right (a && b && c && d) e k, and-right (a && b && c && d && e) f h)
+  abbrev ne : Point
+  ne = halfPoint (east k) (north k)
 
-and-both : (a b : Bool) → a ≡ true → b ≡ true → a && b ≡ true
-and-both true b e f = f
-and-both false b e f = e
-
-not-by : (c : Bool) → (c ≡ true → ⊥) → not c ≡ true
-not-by true f = absurd (f refl)
-not-by false f = refl
-
-by-not : (c : Bool) → not c ≡ true → c ≡ true → ⊥
-by-not true e f = let z : _≡_ {A = ℕ} 0 1 = cc in omega arith
-by-not false e f = let z : _≡_ {A = ℕ} 0 1 = cc in omega arith
-
-pub turnAt-is : (a b : Point) (s : Spot)
-    → Is (turnAt a b s) (b .x .0 * s .Y + b .y .0 * (a .x .0 * s .Z) + a .y .0 * s .X) (b .x .0 * (a .y .0 * s .Z) + a .x .0 * s .Y + b .y .0 * s .X)
-unfolding turnAt
-turnAt-is a b s =
-    shift-is
-    (add-is (mul-is (sub-is (b .x .0) (a .x .0)) (sub-is (s .Y) (a .y .0 * s .Z)))
-    (neg-is (mul-is (sub-is (b .y .0) (a .y .0)) (sub-is (s .X) (a .x .0 * s .Z)))))
-    (omega arith)
-
-module _ (k : Block) (l : Line) where
-  abbrev Lefts : Type 0
-  Lefts = AllLeft (l .a .x .0) (l .a .y .0) (l .b .x .0) (l .b .y .0) (k .west) (east k) (k .south) (north k)
-
-  abbrev Rights : Type 0
-  Rights = AllRight (l .a .x .0) (l .a .y .0) (l .b .x .0) (l .b .y .0) (k .west) (east k) (k .south) (north k)
-
-  left→ : (x y : ℕ) → leftOf l (halfPoint x y) ≡ true → rights (l .a) (l .b) (halfPoint x y) < lefts (l .a) (l .b) (halfPoint x y)
-  unfolding leftOf
-  left→ x y e = ltb-true _ _ (sym (positive-is (turn-is (l .a) (l .b) (halfPoint x y))) ∙ e)
-
-  left← : (x y : ℕ) → rights (l .a) (l .b) (halfPoint x y) < lefts (l .a) (l .b) (halfPoint x y) → leftOf l (halfPoint x y) ≡ true
-  unfolding leftOf
-  left← x y h = positive-is (turn-is (l .a) (l .b) (halfPoint x y)) ∙ lt-ltb _ _ h
-
-  right→ : (x y : ℕ) → rightOf l (halfPoint x y) ≡ true → lefts (l .a) (l .b) (halfPoint x y) < rights (l .a) (l .b) (halfPoint x y)
-  unfolding rightOf
-  right→ x y e = ltb-true _ _ (sym (negative-is (turn-is (l .a) (l .b) (halfPoint x y))) ∙ e)
-
-  right← : (x y : ℕ) → lefts (l .a) (l .b) (halfPoint x y) < rights (l .a) (l .b) (halfPoint x y) → rightOf l (halfPoint x y) ≡ true
-  unfolding rightOf
-  right← x y h = negative-is (turn-is (l .a) (l .b) (halfPoint x y)) ∙ lt-ltb _ _ h
-
-  corners→ : (t : Point → Bool) → corners t k ≡ true
-      → (t (halfPoint (k .west) (k .south)) ≡ true) × (t (halfPoint (east k) (k .south)) ≡ true) × (t (halfPoint (k .west) (north k)) ≡ true) × (t (halfPoint (east k) (north k)) ≡ true)
+  corners-says : {test : Point → Bool} {P : Point → Type 0} → ((p : Point) → (test p ≡ true) ↔ P p) → (corners test k ≡ true) ↔ (((P sw × P se) × P nw) × P ne)
   unfolding corners
-  corners→ t e = four (t (halfPoint (k .west) (k .south))) (t (halfPoint (east k) (k .south))) (t (halfPoint (k .west) (north k))) (t (halfPoint (east k) (north k))) e
+  corners-says says = both (both (both (says sw) (says se)) (says nw)) (says ne)
 
-  corners← : (t : Point → Bool) → t (halfPoint (k .west) (k .south)) ≡ true → t (halfPoint (east k) (k .south)) ≡ true → t (halfPoint (k .west) (north k)) ≡ true
-      → t (halfPoint (east k) (north k)) ≡ true → corners t k ≡ true
-  unfolding corners
-  corners← t e f g h = and-both _ _ (and-both _ _ (and-both _ _ e f) g) h
+  -- what the test says
+  record Near (l : Line) : Type 0 where
+    fromWest : minX l ≤ east k
+    toEast : k .west ≤ maxX l
+    fromSouth : minY l ≤ north k
+    toNorth : k .south ≤ maxY l
+    notLeft : Left l sw → Left l se → Left l nw → Left l ne → ⊥
+    notRight : Right l sw → Right l se → Right l nw → Right l ne → ⊥
 
-  -- what the six parts of the test say
-  record Parts : Type 0 where
-    p1 : minX l ≤ east k
-    p2 : k .west ≤ maxX l
-    p3 : minY l ≤ north k
-    p4 : k .south ≤ maxY l
-    p5 : Lefts → ⊥
-    p6 : Rights → ⊥
-
-  parts→ : meets k l ≡ true → Parts
+  meets-says : (l : Line) → (meets k l ≡ true) ↔ Near l
   unfolding meets
-  parts→ e =
-      let h = six (leb (minX l) (east k)) (leb (k .west) (maxX l)) (leb (minY l) (north k)) (leb (k .south) (maxY l)) (not (corners (leftOf l) k)) (not (corners (rightOf l) k)) e in
-      record {
-        p1 = leb-true _ _ (h .0);
-        p2 = leb-true _ _ (h .1);
-        p3 = leb-true _ _ (h .2);
-        p4 = leb-true _ _ (h .3);
-        p5 = λ c. by-not (corners (leftOf l) k) (h .4) (corners← (leftOf l) (left← _ _ (c .0)) (left← _ _ (c .1)) (left← _ _ (c .2)) (left← _ _ (c .3)));
-        p6 = λ c. by-not (corners (rightOf l) k) (h .5) (corners← (rightOf l) (right← _ _ (c .0)) (right← _ _ (c .1)) (right← _ _ (c .2)) (right← _ _ (c .3)));
-      }
-
-  parts← : Parts → meets k l ≡ true
-  unfolding meets
-  parts← p =
-      and-both _ _ (and-both _ _ (and-both _ _ (and-both _ _ (and-both _ _ (le-leb _ _ (p .p1)) (le-leb _ _ (p .p2))) (le-leb _ _ (p .p3))) (le-leb _ _ (p .p4)))
-      (not-by _ (λ e. let c = corners→ (leftOf l) e in p .p5 (left→ _ _ (c .0), left→ _ _ (c .1), left→ _ _ (c .2), left→ _ _ (c .3)))))
-      (not-by _ (λ e. let c = corners→ (rightOf l) e in p .p6 (right→ _ _ (c .0), right→ _ _ (c .1), right→ _ _ (c .2), right→ _ _ (c .3))))
-
-  spot-of : Parts → Meets k l
-  spot-of p =
-      let f = clip (l .a .x .0) (l .a .y .0) (l .b .x .0) (l .b .y .0) (k .west) (east k) (k .south) (north k)
-      (omega arith) (omega arith) (p .p1) (p .p2) (p .p3) (p .p4) (p .p5) (p .p6) in
-      let s : Spot = record { X = f .X; Y = f .Y; Z = f .Z; some = f .some } in (
-        s,
-        record { straight = zero-of-equal (turnAt-is (l .a) (l .b) s) (f .straight); fromWest = f .lineX .0; toEast = f .lineX .1; fromSouth = f .lineY .0; toNorth = f .lineY .1 },
-        record { fromWest = f .blockX .0; toEast = f .blockX .1; fromSouth = f .blockY .0; toNorth = f .blockY .1 },
+  meets-says l =
+      Iff·trans
+      (both (both (both (both (both (le-says _ _) (le-says _ _)) (le-says _ _)) (le-says _ _)) (unless (corners-says (left-says l)))) (unless (corners-says (right-says l)))) (
+        λ f. record { fromWest = f .0 .0 .0 .0 .0; toEast = f .0 .0 .0 .0 .1; fromSouth = f .0 .0 .0 .1; toNorth = f .0 .0 .1; notLeft = λ a b c d. f .0 .1 (((a, b), c), d); notRight = λ a b c d. f .1 (((a, b), c), d) },
+        λ n. (((((n .fromWest, n .toEast), n .fromSouth), n .toNorth), λ c. n .notLeft (c .0 .0 .0) (c .0 .0 .1) (c .0 .1) (c .1)), λ c. n .notRight (c .0 .0 .0) (c .0 .0 .1) (c .0 .1) (c .1)),
       )
 
-  parts-of : Meets k l → Parts
-  parts-of m =
-      let s = m .0 in
-      let o = m .1 in
-      let i = m .2 in
-      let e = equal-of-zero (turnAt-is (l .a) (l .b) s) (o .straight) in
+  near-back : (l : Line) → Near l → Near (back l)
+  unfolding back
+  near-back l n =
       record {
-        p1 = cancelled (s .some) (o .fromWest) (i .toEast);
-        p2 = cancelled (s .some) (i .fromWest) (o .toEast);
-        p3 = cancelled (s .some) (o .fromSouth) (i .toNorth);
-        p4 = cancelled (s .some) (i .fromSouth) (o .toNorth);
-        p5 = not-left _ _ _ _ _ _ _ _ (s .X) (s .Y) (s .Z) (s .some) e (i .fromWest) (i .toEast) (i .fromSouth) (i .toNorth);
-        p6 = not-right _ _ _ _ _ _ _ _ (s .X) (s .Y) (s .Z) (s .some) e (i .fromWest) (i .toEast) (i .fromSouth) (i .toNorth);
+        fromWest = omega (arith, n .fromWest);
+        toEast = omega (arith, n .toEast);
+        fromSouth = omega (arith, n .fromSouth);
+        toNorth = omega (arith, n .toNorth);
+        notLeft = λ a b c d. n .notRight (omega (arith, a)) (omega (arith, b)) (omega (arith, c)) (omega (arith, d));
+        notRight = λ a b c d. n .notLeft (omega (arith, a)) (omega (arith, b)) (omega (arith, c)) (omega (arith, d));
       }
 
-  pub meets-iff : (meets k l ≡ true) ↔ Meets k l
-  meets-iff = (λ e. spot-of (parts→ e), λ m. parts← (parts-of m))
+  meets-back : (l : Line) → Meets k (back l) → Meets k l
+  meets-back l (s, o, i) = (s, online-back s l o, i)
+
+  -- ---- The test passes: a spot
+
+  -- the mixture of the ends that lies in the block
+  at-mix : (l : Line) (v u : ℕ) → 0 < v + u
+      → k .west * (v + u) ≤ l .a .x .0 * v + l .b .x .0 * u → l .a .x .0 * v + l .b .x .0 * u ≤ east k * (v + u)
+      → k .south * (v + u) ≤ l .a .y .0 * v + l .b .y .0 * u → l .a .y .0 * v + l .b .y .0 * u ≤ north k * (v + u) → Meets k l
+  at-mix l v u h w e s n =
+      let spot : Spot = record { X = l .a .x .0 * v + l .b .x .0 * u; Y = l .a .y .0 * v + l .b .y .0 * u; Z = v + u; some = h } in
+      (spot, mix-line spot l v u (refl, refl, refl), record { fromWest = w; toEast = e; fromSouth = s; toNorth = n })
+
+  at-end : (l : Line) → k .west ≤ l .a .x .0 → l .a .x .0 ≤ east k → k .south ≤ l .a .y .0 → l .a .y .0 ≤ north k → Meets k l
+  at-end l w e s n = at-mix l 1 0 (omega arith) (omega arith) (omega arith) (omega arith) (omega arith)
+
+  -- the line comes to the west side
+  at-west : (l : Line) → l .a .x .0 ≤ k .west → k .west ≤ l .b .x .0 → l .a .x .0 < l .b .x .0
+      → NotLeft l sw → NotRight l nw → Meets k l
+  at-west l h i j s n = go (l .b .x .0 - k .west) (k .west - l .a .x .0) (omega arith) (omega arith)
+    where
+      go : (v u : ℕ) → k .west ≡ l .a .x .0 + u → l .b .x .0 ≡ l .a .x .0 + u + v → Meets k l
+      go v u e f =
+          let s′ : _ = rw (f, e) at s in
+          let n′ : _ = rw (f, e) at n in
+          at-mix l v u (omega arith) (rw (f, e) (omega arith)) (rw (f, e) (omega arith)) (omega arith) (omega arith)
+
+  -- the line comes to the level w, which the block has
+  at-level : (l : Line) (w : ℕ) → k .south ≤ w → w ≤ north k → l .a .y .0 ≤ w → w ≤ l .b .y .0 → l .a .y .0 < l .b .y .0
+      → NotRight l (halfPoint (k .west) w) → NotLeft l (halfPoint (east k) w) → Meets k l
+  at-level l w f g h i j s n = go (l .b .y .0 - w) (w - l .a .y .0) (omega arith) (omega arith)
+    where
+      go : (v u : ℕ) → w ≡ l .a .y .0 + u → l .b .y .0 ≡ l .a .y .0 + u + v → Meets k l
+      go v u e q =
+          let s′ : _ = rw (q, e) at s in
+          let n′ : _ = rw (q, e) at n in
+          at-mix l v u (omega arith) (omega arith) (omega arith)
+          (omega (arith, mul-le-mul-right (v + u) f, (v + u) · e, u · q)) (omega (arith, mul-le-mul-right (v + u) g, (v + u) · e, u · q))
+
+  -- a line that goes east
+  module _ (l : Line) (n : Near l) (ex : l .a .x .0 ≤ l .b .x .0) where
+    tall : l .b .x .0 * k .south + l .a .x .0 * north k ≤ l .b .x .0 * north k + l .a .x .0 * k .south
+    tall = mul-le (l .b .x .0) (l .a .x .0) (north k) (k .south) ex (omega arith)
+
+    wide : (p q : ℕ) → p ≤ q → q * k .west + p * east k ≤ q * east k + p * k .west
+    wide p q h = mul-le q p (east k) (k .west) h (omega arith)
+
+    -- first below the block, it rises
+    from-south : l .a .y .0 < k .south → NotRight l sw → Meets k l
+    from-south q s =
+        let h : l .a .y .0 < l .b .y .0 = omega (arith, n .toNorth) in
+        let w = wide (l .a .y .0) (l .b .y .0) (le-of-lt h) in
+        at-level l (k .south) (omega arith) (omega arith) (omega arith) (omega (arith, n .toNorth)) h s
+        (not-more (λ f. n .notLeft (omega (arith, f, tall, w)) f (omega (arith, f, tall, w)) (omega (arith, f, tall, w))))
+
+    -- first above it, it falls
+    from-north : north k < l .a .y .0 → NotLeft l nw → Meets k l
+    unfolding back
+    from-north q s =
+        let h : l .b .y .0 < l .a .y .0 = omega (arith, n .fromSouth) in
+        let w = wide (l .b .y .0) (l .a .y .0) (le-of-lt h) in
+        let t : NotRight l ne = not-more (λ f. n .notRight (omega (arith, f, tall, w)) (omega (arith, f, tall, w)) (omega (arith, f, tall, w)) f) in
+        meets-back l (at-level (back l) (north k) (omega arith) (omega arith) (omega (arith, n .fromSouth)) (omega arith) h (omega (arith, s)) (omega (arith, t)))
+
+    -- first west of it, it comes to the west side, or passes a corner of that
+    from-west : l .a .x .0 < k .west → Meets k l
+    from-west p = elim (left? l sw) [
+      | inr s ↦ from-south (low s) (omega (arith, s))
+      | inl s ↦ elim (right? l nw) [
+        | inr t ↦ from-north (high t) (omega (arith, t))
+        | inl t ↦ at-west l (omega arith) (omega (arith, n .toEast)) (omega (arith, n .toEast)) s t
+      ]
+    ]
+      where
+        low : Left l sw → l .a .y .0 < k .south
+        low s = not-more (λ q. elim (order (l .a .y .0) (l .b .y .0)) [
+          | inl h ↦ omega (arith, s, mul-le (l .b .x .0) (l .a .x .0) (l .a .y .0) (k .south) ex (omega arith), mul-le (l .b .y .0) (l .a .y .0) (k .west) (l .a .x .0) h (omega arith))
+          | inr h ↦ let w = wide (l .b .y .0) (l .a .y .0) (le-of-lt h) in n .notLeft s (omega (arith, s, tall, w)) (omega (arith, s, tall, w)) (omega (arith, s, tall, w))
+        ])
+
+        high : Right l nw → north k < l .a .y .0
+        high t = not-more (λ q. elim (order (l .a .y .0) (l .b .y .0)) [
+          | inl h ↦ let w = wide (l .a .y .0) (l .b .y .0) h in n .notRight (omega (arith, t, tall, w)) (omega (arith, t, tall, w)) t (omega (arith, t, tall, w))
+          | inr h ↦ omega (arith, t, mul-le (l .b .x .0) (l .a .x .0) (north k) (l .a .y .0) ex (omega arith), mul-le (l .a .y .0) (l .b .y .0) (k .west) (l .a .x .0) (le-of-lt h) (omega arith))
+        ])
+
+    eastward : Meets k l
+    eastward = elim (order (k .west) (l .a .x .0)) [
+      | inr p ↦ from-west p
+      | inl p ↦ elim (order (k .south) (l .a .y .0)) [
+        | inr q ↦ from-south q (omega (arith, mul-le (l .b .x .0) (l .a .x .0) (k .south) (l .a .y .0) ex (le-of-lt q), mul-le (l .b .y .0) (l .a .y .0) (l .a .x .0) (k .west) (omega (arith, n .toNorth)) p))
+        | inl q ↦ elim (order (l .a .y .0) (north k)) [
+          | inr r ↦ from-north r (omega (arith, mul-le (l .b .x .0) (l .a .x .0) (l .a .y .0) (north k) ex (le-of-lt r), mul-le (l .a .y .0) (l .b .y .0) (l .a .x .0) (k .west) (omega (arith, n .fromSouth)) p))
+          | inl r ↦ at-end l p (omega (arith, n .fromWest)) q r
+        ]
+      ]
+    ]
+
+  spot-of : (l : Line) → Near l → Meets k l
+  unfolding back
+  spot-of l n = elim (order (l .a .x .0) (l .b .x .0)) [ inl h ↦ eastward l n h | inr h ↦ meets-back l (eastward (back l) (near-back l n) (omega arith)) ]
+
+  -- ---- A spot: the test passes
+
+  -- (bx - ax) (Y - cy Z) and (by - ay) (cx Z - X) are not negative: c is not left
+  not-left : (l : Line) (c : Point) (m : Meets k l)
+      → l .b .x .0 * (c .y .0 * m .0 .Z) + l .a .x .0 * m .0 .Y ≤ l .b .x .0 * m .0 .Y + l .a .x .0 * (c .y .0 * m .0 .Z)
+      → l .b .y .0 * m .0 .X + l .a .y .0 * (c .x .0 * m .0 .Z) ≤ l .b .y .0 * (c .x .0 * m .0 .Z) + l .a .y .0 * m .0 .X
+      → Left l c → ⊥
+  not-left l c (s, o, i) h j f = let e = straight-of o in omega (arith, e, h, j, mul-lt-mul-of-pos-left f (s .some))
+
+  some-corner : (l : Line) → Meets k l → Left l sw → Left l se → Left l nw → Left l ne → ⊥
+  some-corner l m c d e f = go (order (l .a .x .0) (l .b .x .0)) (order (l .a .y .0) (l .b .y .0))
+    where
+      go : (l .a .x .0 ≤ l .b .x .0) ⊎ (l .b .x .0 < l .a .x .0) → (l .a .y .0 ≤ l .b .y .0) ⊎ (l .b .y .0 < l .a .y .0) → ⊥
+      go (inl h) (inl j) = not-left l se m (mul-le _ _ _ _ h (m .2 .fromSouth)) (mul-le _ _ _ _ j (m .2 .toEast)) d
+      go (inl h) (inr j) = not-left l sw m (mul-le _ _ _ _ h (m .2 .fromSouth)) (omega (arith, mul-le _ _ _ _ (le-of-lt j) (m .2 .fromWest))) c
+      go (inr h) (inl j) = not-left l ne m (omega (arith, mul-le _ _ _ _ (le-of-lt h) (m .2 .toNorth))) (mul-le _ _ _ _ j (m .2 .toEast)) f
+      go (inr h) (inr j) = not-left l nw m (omega (arith, mul-le _ _ _ _ (le-of-lt h) (m .2 .toNorth))) (omega (arith, mul-le _ _ _ _ (le-of-lt j) (m .2 .fromWest))) e
+
+  near-of : (l : Line) → Meets k l → Near l
+  unfolding back
+  near-of l (s, o, i) =
+      record {
+        fromWest = cancelled (s .some) (o .fromWest) (i .toEast);
+        toEast = cancelled (s .some) (i .fromWest) (o .toEast);
+        fromSouth = cancelled (s .some) (o .fromSouth) (i .toNorth);
+        toNorth = cancelled (s .some) (i .fromSouth) (o .toNorth);
+        notLeft = some-corner l (s, o, i);
+        notRight = λ c d e f. some-corner (back l) (meets-back (back l) (s, o, i)) (omega (arith, c)) (omega (arith, d)) (omega (arith, e)) (omega (arith, f));
+      }
+
+  pub meets-iff : (l : Line) → (meets k l ≡ true) ↔ Meets k l
+  meets-iff l = Iff·trans (meets-says l) (spot-of l, near-of l)
