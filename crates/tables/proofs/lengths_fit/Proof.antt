@@ -1,0 +1,11 @@
+use mathlib.Core.Path.{refl}
+use Rattle.definitions.specs.Tables.{lengthsFit}
+use Rattle.tables.proofs.lengths_fit.Statement.{statement}
+use Rattle.tables.proofs.lengths_fit.Tie as tie
+
+returns : tie.Need-returns
+unfolding lengthsFit
+returns c = refl
+
+pub lengths-fit-spec : {M : Type 1} → statement M
+lengths-fit-spec = tie.close (tie.spec returns)
