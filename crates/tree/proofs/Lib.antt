@@ -1,0 +1,5 @@
+pub mod Rule
+pub mod Spreading
+pub mod Sequence
+pub mod Sons
+pub mod Start

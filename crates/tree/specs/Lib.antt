@@ -1,0 +1,3 @@
+pub mod Candidates
+pub mod Builds
+pub mod Whole
