@@ -34,14 +34,14 @@ module _ (k : Block) (v : Point) (l : Line) where
   unfolding hangs
   hangs-second e = rw (e, hangs) refl
 
--- v is one end, and w, the other, lies outside
 abbrev Ends : Point → Point → Line → Type 0
 Ends v w l = ((v ≡ l .a) × (w ≡ l .b)) ⊎ ((v ≡ l .b) × (w ≡ l .a))
 
-pub record Hung (k : Block) (v : Point) (l : Line) : Type 0 where
-  pub other : Point
-  pub ends : Ends v other l
-  pub out : inside k other ≡ false
+-- v is an end of the line, and the other lies outside
+record Hung (k : Block) (v : Point) (l : Line) : Type 0 where
+  other : Point
+  ends : Ends v other l
+  out : inside k other ≡ false
 
 hung→ : (k : Block) (v : Point) (l : Line) → hangs k v l ≡ true → Hung k v l
 hung→ k v l h = go (samePoint (l .a) v) refl

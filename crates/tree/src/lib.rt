@@ -34,7 +34,7 @@ pub fn hangs_on(k: Block, l: Line, v: Point) -> bool
     if same_point(l.a, v) {
         return !inside(k, l.b);
     }
-    same_point(l.b, v) && !inside(k, l.a)
+    same_point(l.b, v) & !inside(k, l.a)
 }
 
 pub fn all_hang_on(lines: &[u16], slots: &[u16], k: Block, v: Point) -> bool
@@ -169,12 +169,13 @@ pub fn put_leaf(slots: &[u16], nodes: &mut [u16], listings: &mut [u16], at: Plac
     if listings.len() - listing < n {
         return Built::NoRoom;
     }
-    nodes[node] = n as u16;
-    copy(slots, &mut listings[listing..]);
-    Built::Next(Place {
+    let next = Place {
         node: node + 1,
         listing: listing + n,
-    })
+    };
+    nodes[node] = n as u16;
+    copy(slots, &mut listings[listing..]);
+    Built::Next(next)
 }
 
 // The tree of a block with these candidates. A block at level n has side 2 x 2^n.

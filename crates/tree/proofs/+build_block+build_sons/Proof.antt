@@ -34,6 +34,7 @@ use Rattle.tree.proofs.spread.Reads as spread-reads
 use Rattle.tree.proofs.+build_block+build_sons.{statement}
 use Rattle.tree.proofs.+build_block+build_sons.Tie.{close}
 
+-- the level falls: a block at twice its level, its sons one more
 abbrev μ-build-block : Measures 4 build-block-kinds.ps ℕ
 μ-build-block κs a = 2 * a .1 .1 .1 .1 .0
 
@@ -58,16 +59,25 @@ build-sons-below t =
 
 module _ (t : ℕ) where
   abbrev block-claims : build-block-lts.Claims
-  block-claims = (left-whole-reads.Asked, left-whole-reads.Learnt, put-leaf-reads.Asked, put-leaf-reads.Learnt, build-sons-below t, build-sons.Post)
+  block-claims = (
+    left-whole-reads.Asked,
+    left-whole-reads.Learnt,
+    put-leaf-reads.Asked,
+    put-leaf-reads.Learnt,
+    build-sons-below t,
+    build-sons.Post,
+  )
+
+  abbrev Entry : Type 0
+  Entry = build-block-lts.Start block-claims (build-block-at t) build-block.Post
 
   abbrev At-block : Type 0
   At-block = build-block-lts.After-left-whole block-claims (build-block-at t) build-block.Post
 
-  abbrev block-start : At-block → build-block-lts.Start block-claims (build-block-at t) build-block.Post
+  abbrev block-start : At-block → Entry
   block-start w = w .before .before .before .before .before .before .before .before
 
-  part-of : (s : build-block-lts.Start block-claims (build-block-at t) build-block.Post)
-      → take (s .args .c .to - s .args .c .from) (drop (s .args .c .from) (s .args .slots .now)) ≡ slice (s .args .c .from) (s .args .c .to) (s .args .slots .now)
+  part-of : (s : Entry) → take (s .args .c .to - s .args .c .from) (drop (s .args .c .from) (s .args .slots .now)) ≡ slice (s .args .c .from) (s .args .c .to) (s .args .slots .now)
   part-of s = part-is (s .args .c .from) (s .args .c .to) (s .args .slots .now) (s .pre .1 .span)
 
   whole-is : (w : At-block) → let a = block-start w .args in
@@ -81,7 +91,9 @@ module _ (t : ℕ) where
   divided-at e = is-divided _ _ _ _ (sym (e .if2 .left) ∙ whole-is (e .before)) (block-start (e .before) .pre .1 .ofTree)
 
   build-block-returns : build-block-lts.Need-returns block-claims (build-block-at t) build-block.Post
-  build-block-returns c = let s = c .before .before .before .before .before in let a = s .args in grown-none (a .lines .now) _ (blockOf (a .k)) (a .level) (a .at) (a .nodes .now) (a .listings .now) (a .c .free) (a .slots .now) (c .if1 .taken)
+  build-block-returns c =
+      let a = c .before .before .before .before .before .args in
+      grown-none (a .lines .now) _ (blockOf (a .k)) (a .level) (a .at) (a .nodes .now) (a .listings .now) (a .c .free) (a .slots .now) (omega (arith, c .if1 .taken))
 
   build-block-mul-left-whole : build-block-lts.Need-mul-left-whole block-claims (build-block-at t) build-block.Post
   build-block-mul-left-whole c = search needs
@@ -96,7 +108,9 @@ module _ (t : ℕ) where
   build-block-part-left-whole-end c = search needs
 
   build-block-left-whole-requires : build-block-lts.Need-left-whole-requires block-claims (build-block-at t) build-block.Post
-  build-block-left-whole-requires c κs = let s = c .before .before .before .before .before .before .before in subst (λ (z : List ℕ). Candidates (s .args .lines .now) (blockOf (s .args .k)) z) (sym (part-of s)) (s .pre .1 .candidates)
+  build-block-left-whole-requires c κs =
+      let s = c .before .before .before .before .before .before .before in
+      subst (λ (z : List ℕ). Candidates (s .args .lines .now) (blockOf (s .args .k)) z) (sym (part-of s)) (s .pre .1 .candidates)
 
   build-block-mul-put-leaf : build-block-lts.Need-mul-put-leaf block-claims (build-block-at t) build-block.Post
   build-block-mul-put-leaf c = search needs
@@ -126,7 +140,8 @@ module _ (t : ℕ) where
   build-block-returns-2 c =
       let w = c .before .before .before .before .before .before .before .before .before .before in
       let s = block-start w in
-      grown-leaf _ _ _ (s .args .level) (left-whole (s .args .lines .now) _ _ (s .args .level) (sym (c .before .before .before .before .before .before .before .before .before .if2 .taken) ∙ whole-is w) (s .pre .1 .ofTree) (s .pre .1 .candidates)) _ (part-of s) (c .before .before .before .before .put-leaf .ensures) refl
+      let leaf = left-whole (s .args .lines .now) _ _ (s .args .level) (sym (c .before .before .before .before .before .before .before .before .before .if2 .taken) ∙ whole-is w) (s .pre .1 .ofTree) (s .pre .1 .candidates) in
+      grown-leaf _ _ _ (s .args .level) leaf _ (part-of s) (c .before .before .before .before .put-leaf .ensures) refl
 
   build-block-mul-nodes : build-block-lts.Need-mul-nodes block-claims (build-block-at t) build-block.Post
   build-block-mul-nodes c = search needs
@@ -165,7 +180,20 @@ module _ (t : ℕ) where
 
 module _ (t : ℕ) where
   abbrev sons-claims : build-sons-lts.Claims
-  sons-claims = (spread-reads.Asked, spread-reads.Learnt, north-west-reads.Asked, north-west-reads.Learnt, build-block-below t, build-block.Post, north-east-reads.Asked, north-east-reads.Learnt, south-west-reads.Asked, south-west-reads.Learnt, south-east-reads.Asked, south-east-reads.Learnt)
+  sons-claims = (
+    spread-reads.Asked,
+    spread-reads.Learnt,
+    north-west-reads.Asked,
+    north-west-reads.Learnt,
+    build-block-below t,
+    build-block.Post,
+    north-east-reads.Asked,
+    north-east-reads.Learnt,
+    south-west-reads.Asked,
+    south-west-reads.Learnt,
+    south-east-reads.Asked,
+    south-east-reads.Learnt,
+  )
 
   abbrev Spread-done : Type 0
   Spread-done = build-sons-lts.After-spread sons-claims (build-sons-at t) build-sons.Post
@@ -173,16 +201,29 @@ module _ (t : ℕ) where
   abbrev sons-start : Spread-done → build-sons-lts.Start sons-claims (build-sons-at t) build-sons.Post
   sons-start g = g .before .before .before .before .before .before
 
-  abbrev first : build-sons-lts.After-build-block sons-claims (build-sons-at t) build-sons.Post → Spread-done
+  -- each son's build leads back to the one before
+  abbrev Nw-done : Type 0
+  Nw-done = build-sons-lts.After-build-block sons-claims (build-sons-at t) build-sons.Post
+
+  abbrev Ne-done : Type 0
+  Ne-done = build-sons-lts.After-build-block2 sons-claims (build-sons-at t) build-sons.Post
+
+  abbrev Sw-done : Type 0
+  Sw-done = build-sons-lts.After-build-block3 sons-claims (build-sons-at t) build-sons.Post
+
+  abbrev Se-done : Type 0
+  Se-done = build-sons-lts.After-build-block4 sons-claims (build-sons-at t) build-sons.Post
+
+  abbrev first : Nw-done → Spread-done
   first b = b .before .before .before .before .before .before .before
 
-  abbrev second : build-sons-lts.After-build-block2 sons-claims (build-sons-at t) build-sons.Post → build-sons-lts.After-build-block sons-claims (build-sons-at t) build-sons.Post
+  abbrev second : Ne-done → Nw-done
   second b = b .before .before .before .before .before .before .before .before .before .before .before .before .before .before
 
-  abbrev third : build-sons-lts.After-build-block3 sons-claims (build-sons-at t) build-sons.Post → build-sons-lts.After-build-block2 sons-claims (build-sons-at t) build-sons.Post
+  abbrev third : Sw-done → Ne-done
   third b = b .before .before .before .before .before .before .before .before .before .before .before .before .before .before
 
-  abbrev fourth : build-sons-lts.After-build-block4 sons-claims (build-sons-at t) build-sons.Post → build-sons-lts.After-build-block3 sons-claims (build-sons-at t) build-sons.Post
+  abbrev fourth : Se-done → Sw-done
   fourth b = b .before .before .before .before .before .before .before .before .before .before .before .before .before .before
 
   -- what stands after the spread and after each son
@@ -190,9 +231,9 @@ module _ (t : ℕ) where
       SoFar (s .pre .1) (g .spread .ensures) (s .args .nodes .now) (s .args .listings .now) (λ f. []) (s .args .nodes .now) (s .args .listings .now) (g .spread .last .1 .0) (Next (s .args .at))
   after-spread g = let s = sons-start g in no-son (s .pre .1) (g .spread .ensures) (s .args .nodes .now) (s .args .listings .now) (g .spread .kept .1 .0) (s .pre .1 .node) (s .pre .1 .listing)
 
-  after-nw : (b : build-sons-lts.After-build-block sons-claims (build-sons-at t) build-sons.Post) → let g = first b in
+  after-nw : (b : Nw-done) → let g = first b in
       let s = sons-start g in
-      SoFar (s .pre .1) (g .spread .ensures) (s .args .nodes .now) (s .args .listings .now) (λ f. f (nwOf (blockOf (s .args .k))))
+      SoFar (s .pre .1) (g .spread .ensures) (s .args .nodes .now) (s .args .listings .now) (λ f. let k = blockOf (s .args .k) in f (nwOf k))
       (b .build-block .last .1 .1 .1 .1 .1 .0) (b .build-block .last .1 .1 .1 .1 .1 .1 .0) (b .build-block .last .1 .0) (b .build-block .result)
   after-nw b =
       let g = first b in
@@ -200,9 +241,9 @@ module _ (t : ℕ) where
       son-then _ _ _ _ (after-spread (first b)) refl _ _ (b .before .before .before .north-west .ensures) (nw-of-tree (s .pre .1 .ofTree)) (g .spread .ensures .nw)
       (b .build-block .ensures) (b .build-block .kept .1 .0) (b .build-block .kept .1 .1 .1 .1 .1 .0) (b .build-block .kept .1 .1 .1 .1 .1 .1 .0)
 
-  after-ne : (b : build-sons-lts.After-build-block2 sons-claims (build-sons-at t) build-sons.Post) → let g = first (second b) in
+  after-ne : (b : Ne-done) → let g = first (second b) in
       let s = sons-start g in
-      SoFar (s .pre .1) (g .spread .ensures) (s .args .nodes .now) (s .args .listings .now) (λ f. f (nwOf (blockOf (s .args .k))) ++ f (neOf (blockOf (s .args .k))))
+      SoFar (s .pre .1) (g .spread .ensures) (s .args .nodes .now) (s .args .listings .now) (λ f. let k = blockOf (s .args .k) in f (nwOf k) ++ f (neOf k))
       (b .build-block2 .last .1 .1 .1 .1 .1 .0) (b .build-block2 .last .1 .1 .1 .1 .1 .1 .0) (b .build-block2 .last .1 .0) (b .build-block2 .result)
   after-ne b =
       let g = first (second b) in
@@ -210,9 +251,9 @@ module _ (t : ℕ) where
       son-then _ _ _ _ (after-nw (second b)) (b .before .before .before .before .before .before .p .given .1) _ _ (b .before .before .before .north-east .ensures) (ne-of-tree (s .pre .1 .ofTree)) (g .spread .ensures .ne)
       (b .build-block2 .ensures) (b .build-block2 .kept .1 .0) (b .build-block2 .kept .1 .1 .1 .1 .1 .0) (b .build-block2 .kept .1 .1 .1 .1 .1 .1 .0)
 
-  after-sw : (b : build-sons-lts.After-build-block3 sons-claims (build-sons-at t) build-sons.Post) → let g = first (second (third b)) in
+  after-sw : (b : Sw-done) → let g = first (second (third b)) in
       let s = sons-start g in
-      SoFar (s .pre .1) (g .spread .ensures) (s .args .nodes .now) (s .args .listings .now) (λ f. f (nwOf (blockOf (s .args .k))) ++ f (neOf (blockOf (s .args .k))) ++ f (swOf (blockOf (s .args .k))))
+      SoFar (s .pre .1) (g .spread .ensures) (s .args .nodes .now) (s .args .listings .now) (λ f. let k = blockOf (s .args .k) in f (nwOf k) ++ f (neOf k) ++ f (swOf k))
       (b .build-block3 .last .1 .1 .1 .1 .1 .0) (b .build-block3 .last .1 .1 .1 .1 .1 .1 .0) (b .build-block3 .last .1 .0) (b .build-block3 .result)
   after-sw b =
       let g = first (second (third b)) in
@@ -220,9 +261,9 @@ module _ (t : ℕ) where
       son-then _ _ _ _ (after-ne (third b)) (b .before .before .before .before .before .before .q .given .1) _ _ (b .before .before .before .south-west .ensures) (sw-of-tree (s .pre .1 .ofTree)) (g .spread .ensures .sw)
       (b .build-block3 .ensures) (b .build-block3 .kept .1 .0) (b .build-block3 .kept .1 .1 .1 .1 .1 .0) (b .build-block3 .kept .1 .1 .1 .1 .1 .1 .0)
 
-  after-se : (b : build-sons-lts.After-build-block4 sons-claims (build-sons-at t) build-sons.Post) → let g = first (second (third (fourth b))) in
+  after-se : (b : Se-done) → let g = first (second (third (fourth b))) in
       let s = sons-start g in
-      SoFar (s .pre .1) (g .spread .ensures) (s .args .nodes .now) (s .args .listings .now) (λ f. f (nwOf (blockOf (s .args .k))) ++ f (neOf (blockOf (s .args .k))) ++ f (swOf (blockOf (s .args .k))) ++ f (seOf (blockOf (s .args .k))))
+      SoFar (s .pre .1) (g .spread .ensures) (s .args .nodes .now) (s .args .listings .now) (λ f. let k = blockOf (s .args .k) in f (nwOf k) ++ f (neOf k) ++ f (swOf k) ++ f (seOf k))
       (b .build-block4 .last .1 .1 .1 .1 .1 .0) (b .build-block4 .last .1 .1 .1 .1 .1 .1 .0) (b .build-block4 .last .1 .0) (b .build-block4 .result)
   after-se b =
       let g = first (second (third (fourth b))) in
@@ -238,8 +279,11 @@ module _ (t : ℕ) where
 
   build-sons-build-block-requires : build-sons-lts.Need-build-block-requires sons-claims (build-sons-at t) build-sons.Post
   build-sons-build-block-requires c κs =
-      let s = sons-start (c .before .before .before .before .before .before) in
-      (omega (arith, s .pre .0), son-ready _ _ _ _ (after-spread (c .before .before .before .before .before .before)) refl _ _ (c .before .before .north-west .ensures) (nw-of-tree (s .pre .1 .ofTree)) (c .before .before .before .before .before .before .spread .ensures .nw))
+      let g = c .before .before .before .before .before .before in
+      let s = sons-start g in (
+        omega (arith, s .pre .0),
+        son-ready _ _ _ _ (after-spread g) refl _ _ (c .before .before .north-west .ensures) (nw-of-tree (s .pre .1 .ofTree)) (g .spread .ensures .nw),
+      )
 
   build-sons-enum-known-p : build-sons-lts.Need-enum-known-p sons-claims (build-sons-at t) build-sons.Post
   build-sons-enum-known-p c = search needs
@@ -265,8 +309,12 @@ module _ (t : ℕ) where
 
   build-sons-build-block-requires-2 : build-sons-lts.Need-build-block-requires-2 sons-claims (build-sons-at t) build-sons.Post
   build-sons-build-block-requires-2 c κs =
-      let s = sons-start (first (c .before .before .before .before .before .before .before .before .before .before .before .before .before)) in
-      (omega (arith, s .pre .0), son-ready _ _ _ _ (after-nw (c .before .before .before .before .before .before .before .before .before .before .before .before .before)) (c .before .before .before .before .before .p .given .1) _ _ (c .before .before .north-east .ensures) (ne-of-tree (s .pre .1 .ofTree)) (first (c .before .before .before .before .before .before .before .before .before .before .before .before .before) .spread .ensures .ne))
+      let b = c .before .before .before .before .before .before .before .before .before .before .before .before .before in
+      let g = first b in
+      let s = sons-start g in (
+        omega (arith, s .pre .0),
+        son-ready _ _ _ _ (after-nw b) (c .before .before .before .before .before .p .given .1) _ _ (c .before .before .north-east .ensures) (ne-of-tree (s .pre .1 .ofTree)) (g .spread .ensures .ne),
+      )
 
   build-sons-enum-known-q : build-sons-lts.Need-enum-known-q sons-claims (build-sons-at t) build-sons.Post
   build-sons-enum-known-q c = search needs
@@ -292,8 +340,12 @@ module _ (t : ℕ) where
 
   build-sons-build-block-requires-3 : build-sons-lts.Need-build-block-requires-3 sons-claims (build-sons-at t) build-sons.Post
   build-sons-build-block-requires-3 c κs =
-      let s = sons-start (first (second (c .before .before .before .before .before .before .before .before .before .before .before .before .before))) in
-      (omega (arith, s .pre .0), son-ready _ _ _ _ (after-ne (c .before .before .before .before .before .before .before .before .before .before .before .before .before)) (c .before .before .before .before .before .q .given .1) _ _ (c .before .before .south-west .ensures) (sw-of-tree (s .pre .1 .ofTree)) (first (second (c .before .before .before .before .before .before .before .before .before .before .before .before .before)) .spread .ensures .sw))
+      let b = c .before .before .before .before .before .before .before .before .before .before .before .before .before in
+      let g = first (second b) in
+      let s = sons-start g in (
+        omega (arith, s .pre .0),
+        son-ready _ _ _ _ (after-ne b) (c .before .before .before .before .before .q .given .1) _ _ (c .before .before .south-west .ensures) (sw-of-tree (s .pre .1 .ofTree)) (g .spread .ensures .sw),
+      )
 
   build-sons-enum-known-r : build-sons-lts.Need-enum-known-r sons-claims (build-sons-at t) build-sons.Post
   build-sons-enum-known-r c = search needs
@@ -319,8 +371,12 @@ module _ (t : ℕ) where
 
   build-sons-build-block-requires-4 : build-sons-lts.Need-build-block-requires-4 sons-claims (build-sons-at t) build-sons.Post
   build-sons-build-block-requires-4 c κs =
-      let s = sons-start (first (second (third (c .before .before .before .before .before .before .before .before .before .before .before .before .before)))) in
-      (omega (arith, s .pre .0), son-ready _ _ _ _ (after-sw (c .before .before .before .before .before .before .before .before .before .before .before .before .before)) (c .before .before .before .before .before .r .given .1) _ _ (c .before .before .south-east .ensures) (se-of-tree (s .pre .1 .ofTree)) (first (second (third (c .before .before .before .before .before .before .before .before .before .before .before .before .before))) .spread .ensures .se))
+      let b = c .before .before .before .before .before .before .before .before .before .before .before .before .before in
+      let g = first (second (third b)) in
+      let s = sons-start g in (
+        omega (arith, s .pre .0),
+        son-ready _ _ _ _ (after-sw b) (c .before .before .before .before .before .r .given .1) _ _ (c .before .before .south-east .ensures) (se-of-tree (s .pre .1 .ofTree)) (g .spread .ensures .se),
+      )
 
   build-sons-same-length-10 : build-sons-lts.Need-same-length-10 sons-claims (build-sons-at t) build-sons.Post
   build-sons-same-length-10 c = after-se (c .before .before .before .before .before .before) .slots-kept

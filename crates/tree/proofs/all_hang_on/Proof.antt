@@ -31,13 +31,20 @@ shared-slice-read-line-at : tie.Need-shared-slice-read-line-at Inv-loop μ-loop
 shared-slice-read-line-at c = search needs
 
 line-at-requires : tie.Need-line-at-requires Inv-loop μ-loop
-line-at-requires c κs = let s = c .before .before .before .before .before in let l = c .before .before in s .pre _ (mem-at (s .args .slots .now) (l .loop .i) (c .before .loop-test .taken)) .good .onMap
+line-at-requires c κs =
+    let l = c .before .before in
+    let s = l .before .before .before in
+    s .pre _ (mem-at (s .args .slots .now) (l .loop .i) (c .before .loop-test .taken)) .good .onMap
 
 hangs-on-requires : tie.Need-hangs-on-requires Inv-loop μ-loop
 hangs-on-requires c κs = search needs
 
 returns : tie.Need-returns Inv-loop μ-loop
-returns c = let l = c .before .before .before .before .before in let s = l .before .before .before in every-not _ (s .args .slots .now) _ (mem-at (s .args .slots .now) (l .loop .i) (c .before .before .before .before .loop-test .taken)) (sym (hangs-is _ _ (c .before .before .line-at .ensures)) ∙ sym (c .before .hangs-on .ensures) ∙ not-true _ (c .if1 .taken))
+returns c =
+    let l = c .before .before .before .before .before in
+    let slots = l .before .before .before .args .slots .now in
+    every-not _ slots _ (mem-at slots (l .loop .i) (c .before .before .before .before .loop-test .taken))
+    (sym (hangs-is _ _ (c .before .before .line-at .ensures)) ∙ sym (c .before .hangs-on .ensures) ∙ not-true _ (c .if1 .taken))
 
 add-i : tie.Need-add-i Inv-loop μ-loop
 add-i c = search needs
@@ -46,10 +53,19 @@ loop-less : tie.Need-loop-less Inv-loop μ-loop
 loop-less c = search needs
 
 loop-again : tie.Need-loop-again Inv-loop μ-loop
-loop-again c = let l = c .before .before .before .before .before in let s = l .before .before .before in (omega arith, every-turn _ (s .args .slots .now) (l .loop .i) (l .loop .inv .1) (c .before .before .before .before .loop-test .taken) (sym (hangs-is _ _ (c .before .before .line-at .ensures)) ∙ sym (c .before .hangs-on .ensures) ∙ not-false _ (c .if1 .left)))
+loop-again c =
+    let l = c .before .before .before .before .before in
+    let slots = l .before .before .before .args .slots .now in (
+      omega arith,
+      every-turn _ slots (l .loop .i) (l .loop .inv .1) (c .before .before .before .before .loop-test .taken)
+          (sym (hangs-is _ _ (c .before .before .line-at .ensures)) ∙ sym (c .before .hangs-on .ensures) ∙ not-false _ (c .if1 .left)),
+    )
 
 returns-2 : tie.Need-returns-2 Inv-loop μ-loop
-returns-2 c = let s = c .before .before .before .before in let l = c .before in sym (l .loop .inv .1) ∙ ap (every _) (take-all (l .loop .i) (s .args .slots .now) (c .loop-test .left))
+returns-2 c =
+    let l = c .before in
+    let s = l .before .before .before in
+    sym (l .loop .inv .1) ∙ ap (every _) (take-all (l .loop .i) (s .args .slots .now) (c .loop-test .left))
 
 pub all-hang-on-spec : {M : Type 1} → statement M
 all-hang-on-spec =

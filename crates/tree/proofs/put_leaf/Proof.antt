@@ -13,6 +13,12 @@ sub-if1 c = search needs
 returns : tie.Need-returns
 returns c = inr (omega arith)
 
+add-nodes : tie.Need-add-nodes
+add-nodes c = search needs
+
+add-copy : tie.Need-add-copy
+add-copy c = search needs
+
 cast-nodes : tie.Need-cast-nodes
 cast-nodes c = search needs
 
@@ -36,12 +42,6 @@ part-copy-end c = search needs
 
 copy-requires : tie.Need-copy-requires
 copy-requires c κs = search needs
-
-add-t9 : tie.Need-add-t9
-add-t9 c = search needs
-
-add-t8 : tie.Need-add-t8
-add-t8 c = search needs
 
 same-length : tie.Need-same-length
 same-length c = search needs
@@ -69,6 +69,8 @@ put-leaf-spec =
     (tie.spec
     sub-if1
     returns
+    add-nodes
+    add-copy
     cast-nodes
     mul-nodes
     slice-write-nodes
@@ -77,8 +79,6 @@ put-leaf-spec =
     part-copy-start
     part-copy-end
     copy-requires
-    add-t9
-    add-t8
     same-length
     same-length-2
     returns-2)

@@ -20,13 +20,17 @@ both : (g : tie.After-inside2) → g .before .inside .result && g .inside2 .resu
 both g = ap₂ (λ (p q : Bool). p && q) (g .before .inside .ensures) (g .inside2 .ensures)
 
 returns : tie.Need-returns
-returns c = let s = c .before .before .before in no-candidate (s .args .lines .now) (blockOf (s .args .k)) (s .args .slots .now) (c .if1 .taken)
+returns c =
+    let s = c .before .before .before in
+    no-candidate (s .args .lines .now) (blockOf (s .args .k)) (s .args .slots .now) (c .if1 .taken)
 
 shared-slice-read-line-at : tie.Need-shared-slice-read-line-at
 shared-slice-read-line-at c = search needs
 
 line-at-requires : tie.Need-line-at-requires
-line-at-requires c κs = let s = c .before .before .before .before in s .pre _ (mem-at (s .args .slots .now) 0 (pos-of-ne-zero (c .before .if1 .left))) .good .onMap
+line-at-requires c κs =
+    let s = c .before .before .before .before in
+    s .pre _ (mem-at (s .args .slots .now) 0 (pos-of-ne-zero (c .before .if1 .left))) .good .onMap
 
 inside-requires : tie.Need-inside-requires
 inside-requires c κs = search needs
@@ -53,7 +57,9 @@ all-hang-on-requires : tie.Need-all-hang-on-requires
 all-hang-on-requires c κs = rest-candidates (first-of (c .before .before .before .before))
 
 returns-4 : tie.Need-returns-4
-returns-4 c = let g = c .before .before .before .before .before in c .all-hang-on .ensures ∙ first-inside (first-of g) (sym (g .before .inside .ensures) ∙ c .before .before .if4 .taken) (sym (both g) ∙ c .before .before .before .before .if2 .left)
+returns-4 c =
+    let g = c .before .before .before .before .before in
+    c .all-hang-on .ensures ∙ first-inside (first-of g) (sym (g .before .inside .ensures) ∙ c .before .before .if4 .taken) (sym (both g) ∙ c .before .before .before .before .if2 .left)
 
 sub-all-hang-on-2 : tie.Need-sub-all-hang-on-2
 sub-all-hang-on-2 c = search needs
@@ -68,10 +74,14 @@ all-hang-on-requires-2 : tie.Need-all-hang-on-requires-2
 all-hang-on-requires-2 c κs = rest-candidates (first-of (c .before .before .before .before .before))
 
 returns-5 : tie.Need-returns-5
-returns-5 c = let g = c .before .before .before .before .before .before in c .all-hang-on2 .ensures ∙ second-inside (first-of g) (sym (g .before .inside .ensures) ∙ c .before .before .before .if4 .left) (sym (g .inside2 .ensures) ∙ c .before .before .if5 .taken)
+returns-5 c =
+    let g = c .before .before .before .before .before .before in
+    c .all-hang-on2 .ensures ∙ second-inside (first-of g) (sym (g .before .inside .ensures) ∙ c .before .before .before .if4 .left) (sym (g .inside2 .ensures) ∙ c .before .before .if5 .taken)
 
 returns-6 : tie.Need-returns-6
-returns-6 c = let g = c .before .before .before .before in many (first-of g) (sym (g .before .inside .ensures) ∙ c .before .if4 .left) (sym (g .inside2 .ensures) ∙ c .if5 .left) (c .before .before .if3 .left)
+returns-6 c =
+    let g = c .before .before .before .before in
+    many (first-of g) (sym (g .before .inside .ensures) ∙ c .before .if4 .left) (sym (g .inside2 .ensures) ∙ c .if5 .left) (c .before .before .if3 .left)
 
 pub simple-spec : {M : Type 1} → statement M
 simple-spec =

@@ -41,10 +41,14 @@ slice-read-s : tie.Need-slice-read-s Inv-loop μ-loop
 slice-read-s c = search needs
 
 line-at-requires : tie.Need-line-at-requires Inv-loop μ-loop
-line-at-requires c κs = let l = c .before .before .before in candidate (start (l .before) .pre) (l .loop .inv) (c .before .if1 .taken) .good .onMap
+line-at-requires c κs =
+    let l = c .before .before .before in
+    candidate (start (l .before) .pre) (l .loop .inv) (c .before .if1 .taken) .good .onMap
 
 sons-met-requires : tie.Need-sons-met-requires Inv-loop μ-loop
-sons-met-requires c κs = let l = loop-of c in sons-asked (start (l .before) .pre) (l .loop .inv) (c .before .before .if1 .taken) (c .line-at .ensures)
+sons-met-requires c κs =
+    let l = loop-of c in
+    sons-asked (start (l .before) .pre) (l .loop .inv) (c .before .before .if1 .taken) (c .line-at .ensures)
 
 mul-slots : tie.Need-mul-slots Inv-loop μ-loop
 mul-slots c = search needs
@@ -92,7 +96,10 @@ one-requires-4 : tie.Need-one-requires-4 Inv-loop μ-loop
 one-requires-4 c κs = search needs
 
 add-se : tie.Need-add-se Inv-loop μ-loop
-add-se c = let g = c .before .before .before .before .before in let l = loop-of g in omega (arith, c .one4 .ensures, l .loop .inv, start (l .before) .pre, l .before .before, l .before, g .before .before .if1 .taken)
+add-se c =
+    let g = c .before .before .before .before .before in
+    let l = loop-of g in
+    omega (arith, c .one4 .ensures, l .loop .inv, start (l .before) .pre, l .before .before, l .before, g .before .before .if1 .taken)
 
 add-i : tie.Need-add-i Inv-loop μ-loop
 add-i c = search needs

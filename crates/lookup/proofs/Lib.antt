@@ -1,0 +1,4 @@
+pub mod Scans
+pub mod Descent
+pub mod Seats
+pub mod Answering

@@ -1,0 +1,5 @@
+pub mod Ends
+pub mod Compared
+pub mod Puts
+pub mod Inserts
+pub mod Shows

@@ -1,0 +1,4 @@
+pub mod Promise
+pub mod Steps
+pub mod Soundness
+pub mod Putting
