@@ -9,3 +9,6 @@ pub mod Remains
 pub mod Sizes
 pub mod Answers
 pub mod Holds
+pub mod Refusals
+pub mod Cascade
+pub mod Exact

@@ -22,3 +22,5 @@ pub mod Best
 pub mod Column
 pub mod Walk
 pub mod Locate
+pub mod Chain
+pub mod SoundMeans

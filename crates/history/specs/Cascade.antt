@@ -1,0 +1,142 @@
+-- A cascade of tests answers by the first that applies: the laws that all calls share.
+use mathlib.Core.Path.{_≡_, refl, sym, _∙_, ap, subst}
+use mathlib.Core.Logic.{_↔_}
+use mathlib.Core.Bool.{Bool, true, false}
+use mathlib.Core.List.{List, [], _∷_}
+use Prim.Native.Nat.{ℕ, zero, suc, _<_}
+use native.Mathlib.Omega.{arith}
+use lib.Dec.{eqb}
+use borrow.Author.Tests.{eqb-true}
+use Rattle.algebra.specs.Tests.{no-path}
+use Rattle.algebra.specs.Words.{if_then_else_}
+use Rattle.definitions.specs.declared.Answer.{Answer}
+use Rattle.definitions.specs.declared.Answer.the-variants.{Done, Lengths, Damaged, OffGrid, NoLength, Conflict, NoSlot, NoRoom, UnknownHandle}
+use Rattle.definitions.specs.Calls.{refusalOf, detailOf}
+use Rattle.history.specs.Refusals.{None}
+
+-- ---- One test
+
+module _ {R C : Type 0} (P : R → Type 0) where
+  pub tested : (b : Bool) {x y : R} → ((b ≡ true) ↔ C) → (C → P x) → (¬ C → P y) → P (if b then x else y)
+  tested true m f g = f (m .0 refl)
+  tested false m f g = g (λ c. no-path (m .1 c))
+
+-- ---- The first that applies
+
+-- test n applies; past the last, the call is done
+abbrev pub Holds : ℕ → List (Type 0) → Type 0
+Holds zero [] = Unit {0}
+Holds (suc n) [] = ⊥
+Holds zero (c ∷ more) = c
+Holds (suc n) (c ∷ more) = Holds n more
+
+abbrev pub First : ℕ → List (Type 0) → Type 0
+First n tests = Holds n tests × None n tests
+
+first-only : (n m : ℕ) (tests : List (Type 0)) → First n tests → First m tests → n ≡ m
+first-only zero zero tests f g = refl
+first-only zero (suc m) [] f g = absurd (g .0)
+first-only (suc n) m [] f g = absurd (f .0)
+first-only zero (suc m) (c ∷ more) f g = absurd (g .1 .0 (f .0))
+first-only (suc n) zero (c ∷ more) f g = absurd (f .1 .0 (g .0))
+first-only (suc n) (suc m) (c ∷ more) f g = ap suc (first-only n m more (f .0, f .1 .1) (g .0, g .1 .1))
+
+-- where a number stands among those that a call tests; 0, for done, after the last
+abbrev pub place : List ℕ → ℕ → ℕ
+place [] n = n
+place (m ∷ more) n = if eqb n m then 0 else suc (place more n)
+
+place-only : (numbers : List ℕ) (n k : ℕ) → place numbers n ≡ place numbers k → n ≡ k
+place-only [] n k e = e
+place-only (m ∷ more) n k e = go (eqb n m) (eqb k m) refl refl e (place-only more n k)
+  where
+    go : (a b : Bool) → eqb n m ≡ a → eqb k m ≡ b → (if a then 0 else suc (place more n)) ≡ (if b then 0 else suc (place more k)) → (place more n ≡ place more k → n ≡ k) → n ≡ k
+    go true true p q e f = eqb-true n m p ∙ sym (eqb-true k m q)
+    go true false p q e f = absurd (omega arith)
+    go false true p q e f = absurd (omega arith)
+    go false false p q e f = f (omega arith)
+
+-- ---- From numbers to answers
+
+abbrev answerOf : ℕ → ℕ → Answer
+answerOf zero d = Done d
+answerOf (suc zero) d = Lengths
+answerOf (suc (suc zero)) d = Damaged
+answerOf (suc (suc (suc zero))) d = OffGrid
+answerOf (suc (suc (suc (suc zero)))) d = NoLength
+answerOf (suc (suc (suc (suc (suc zero))))) d = Conflict d
+answerOf (suc (suc (suc (suc (suc (suc zero)))))) d = NoSlot
+answerOf (suc (suc (suc (suc (suc (suc (suc zero))))))) d = NoRoom
+answerOf (suc (suc (suc (suc (suc (suc (suc (suc n)))))))) d = UnknownHandle
+
+answer-is : (a : Answer) → a ≡ answerOf (refusalOf a) (detailOf a)
+answer-is (Done d) = refl
+answer-is Lengths = refl
+answer-is Damaged = refl
+answer-is OffGrid = refl
+answer-is NoLength = refl
+answer-is (Conflict s) = refl
+answer-is NoSlot = refl
+answer-is NoRoom = refl
+answer-is UnknownHandle = refl
+
+-- what is asked of an answer's detail
+abbrev pub Detail : (ℕ → Type 0) → (ℕ → Type 0) → Answer → Type 0
+Detail Handle Slot (Done d) = Handle d
+Detail Handle Slot Lengths = Unit {0}
+Detail Handle Slot Damaged = Unit {0}
+Detail Handle Slot OffGrid = Unit {0}
+Detail Handle Slot NoLength = Unit {0}
+Detail Handle Slot (Conflict s) = Slot s
+Detail Handle Slot NoSlot = Unit {0}
+Detail Handle Slot NoRoom = Unit {0}
+Detail Handle Slot UnknownHandle = Unit {0}
+
+-- ---- What a cascade answers
+
+-- the result x of a call that tests these: it answers by the first that applies, with the right detail, and a refusal keeps all
+pub record Came {R : Type 0} (answer : R → Answer) (Kept : R → Type 0) (numbers : List ℕ) (tests : List (Type 0)) (Handle Slot : ℕ → Type 0) (x : R) : Type 0 where
+  pub first : First (place numbers (refusalOf (answer x))) tests
+  pub detail : Detail Handle Slot (answer x)
+  pub kept : 0 < refusalOf (answer x) → Kept x
+
+module _ {R : Type 0} {answer : R → Answer} {Kept : R → Type 0} {numbers : List ℕ} {tests : List (Type 0)} {Handle Slot : ℕ → Type 0} where
+  pub gives : (x : R) → First (place numbers (refusalOf (answer x))) tests → Detail Handle Slot (answer x) → (0 < refusalOf (answer x) → Kept x) → Came answer Kept numbers tests Handle Slot x
+  gives x f d k = record { first = f; detail = d; kept = k }
+
+module _ {R : Type 0} {answer : R → Answer} {Kept : R → Type 0} {numbers : List ℕ} {tests : List (Type 0)} {Handle Slot : ℕ → Type 0} {x : R} (came : Came answer Kept numbers tests Handle Slot x) where
+  by-number : (n : ℕ) → (refusalOf (answer x) ≡ n) ↔ First (place numbers n) tests
+  by-number n = (λ e. subst (λ (k : ℕ). First (place numbers k) tests) e (came .first), λ f. place-only numbers _ n (first-only _ _ tests (came .first) f))
+
+  of-number : (n : ℕ) → First (place numbers n) tests → answer x ≡ answerOf n (detailOf (answer x))
+  of-number n f = answer-is (answer x) ∙ ap (λ (k : ℕ). answerOf k (detailOf (answer x))) (by-number n .1 f)
+
+  -- an answer that has no detail
+  pub plain : (a : Answer) → ((d : ℕ) → answerOf (refusalOf a) d ≡ a) → (answer x ≡ a) ↔ First (place numbers (refusalOf a)) tests
+  plain a same = (λ e. by-number _ .0 (ap refusalOf e), λ f. of-number _ f ∙ same _)
+
+  -- one that has: the detail is the one that is right
+  pub detailed : (make : ℕ → Answer) (n : ℕ) (Right : ℕ → Type 0) → ((d : ℕ) → refusalOf (make d) ≡ n) → ((d : ℕ) → answerOf n d ≡ make d)
+      → ((d : ℕ) → Detail Handle Slot (make d) → Right d) → ((d e : ℕ) → Right d → Right e → d ≡ e) → ((d : ℕ) → Right d → Holds (place numbers n) tests)
+      → (d : ℕ) → (answer x ≡ make d) ↔ (Right d × None (place numbers n) tests)
+  detailed make n Right number made right only holds d = (
+    λ e. (of-answer d e, by-number n .0 (ap refusalOf e ∙ number d) .1),
+    λ r. let e = of-number n (holds d (r .0), r .1) ∙ made _ in e ∙ ap make (only _ _ (of-answer _ e) (r .0)),
+  )
+    where
+      of-answer : (d : ℕ) → answer x ≡ make d → Right d
+      of-answer d e = right d (subst (Detail Handle Slot) e (came .detail))
+
+  -- done, where the detail is always 0
+  pub done-0 : ((d : ℕ) → Handle d → d ≡ 0) → Holds (place numbers 0) tests → (d : ℕ) → (answer x ≡ Done d) ↔ (d ≡ 0) × None (place numbers 0) tests
+  done-0 zero-only h = detailed Done 0 (λ d. d ≡ 0) (λ d. refl) (λ d. refl) zero-only (λ d e p q. p ∙ sym q) (λ d p. h)
+
+-- the first test has none before it
+pub alone : {A C : Type 0} → (A ↔ C × Unit {0}) → A ↔ C
+alone h = (λ a. h .0 a .0, λ c. h .1 (c, tt))
+
+-- the first of a list decides, or that there is none
+pub by-first : {R : Type 0} (P : R → Type 0) (xs : List ℕ) {none : R} {some : ℕ → List ℕ → R} → ((s : ℕ) (more : List ℕ) → xs ≡ s ∷ more → P (some s more)) → (xs ≡ [] → P none)
+    → P (elim xs [ s ∷ more ↦ some s more | [] ↦ none ])
+by-first P [] f g = g refl
+by-first P (s ∷ more) f g = f s more refl
