@@ -80,31 +80,53 @@ answer-is NoSlot = refl
 answer-is NoRoom = refl
 answer-is UnknownHandle = refl
 
--- what is asked of an answer's detail
-abbrev pub Detail : (ℕ → Type 0) → (ℕ → Type 0) → Answer → Type 0
-Detail Handle Slot (Done d) = Handle d
-Detail Handle Slot Lengths = Unit {0}
-Detail Handle Slot Damaged = Unit {0}
-Detail Handle Slot OffGrid = Unit {0}
-Detail Handle Slot NoLength = Unit {0}
-Detail Handle Slot (Conflict s) = Slot s
-Detail Handle Slot NoSlot = Unit {0}
-Detail Handle Slot NoRoom = Unit {0}
-Detail Handle Slot UnknownHandle = Unit {0}
+-- what is asked of a result by its answer: done with a detail, a conflict with a slot, or another refusal
+abbrev pub Asked : (ℕ → Type 0) → (ℕ → Type 0) → Type 0 → Answer → Type 0
+Asked Whole Named Plain (Done d) = Whole d
+Asked Whole Named Plain Lengths = Plain
+Asked Whole Named Plain Damaged = Plain
+Asked Whole Named Plain OffGrid = Plain
+Asked Whole Named Plain NoLength = Plain
+Asked Whole Named Plain (Conflict s) = Named s
+Asked Whole Named Plain NoSlot = Plain
+Asked Whole Named Plain NoRoom = Plain
+Asked Whole Named Plain UnknownHandle = Plain
+
+of-refusal : (Whole Named : ℕ → Type 0) {Plain : Type 0} → ((s : ℕ) → Named s → Plain) → (a : Answer) → 0 < refusalOf a → Asked Whole Named Plain a → Plain
+of-refusal Whole Named f (Done d) h k = absurd (omega arith)
+of-refusal Whole Named f Lengths h k = k
+of-refusal Whole Named f Damaged h k = k
+of-refusal Whole Named f OffGrid h k = k
+of-refusal Whole Named f NoLength h k = k
+of-refusal Whole Named f (Conflict s) h k = f s k
+of-refusal Whole Named f NoSlot h k = k
+of-refusal Whole Named f NoRoom h k = k
+of-refusal Whole Named f UnknownHandle h k = k
 
 -- ---- What a cascade answers
 
--- the result x of a call that tests these: it answers by the first that applies, with the right detail, and a refusal keeps all
-pub record Came {R : Type 0} (answer : R → Answer) (Kept : R → Type 0) (numbers : List ℕ) (tests : List (Type 0)) (Handle Slot : ℕ → Type 0) (x : R) : Type 0 where
+-- the result x of a call that tests these numbers: it answers by the first that applies; done, it has the right detail and made what it should;
+-- a conflict names the right slot, and each refusal keeps all
+pub record Came {R : Type 0} (answer : R → Answer) (Kept Made : R → Type 0) (numbers : List ℕ) (tests : List (Type 0)) (Handle Slot : ℕ → Type 0) (x : R) : Type 0 where
   pub first : First (place numbers (refusalOf (answer x))) tests
-  pub detail : Detail Handle Slot (answer x)
+  pub asked : Asked (λ d. Handle d × Made x) (λ s. Slot s × Kept x) (Kept x) (answer x)
+
+module _ {R : Type 0} {answer : R → Answer} {Kept Made : R → Type 0} {numbers : List ℕ} {tests : List (Type 0)} {Handle Slot : ℕ → Type 0} where
+  pub gives : (x : R) → First (place numbers (refusalOf (answer x))) tests → Asked (λ d. Handle d × Made x) (λ s. Slot s × Kept x) (Kept x) (answer x)
+      → Came answer Kept Made numbers tests Handle Slot x
+  gives x f a = record { first = f; asked = a }
+
+module _ {R : Type 0} {answer : R → Answer} {Kept Made : R → Type 0} {numbers : List ℕ} {tests : List (Type 0)} {Handle Slot : ℕ → Type 0} {x : R}
+    (came : Came answer Kept Made numbers tests Handle Slot x) where
+  abbrev Here : Answer → Type 0
+  Here = Asked (λ d. Handle d × Made x) (λ s. Slot s × Kept x) (Kept x)
+
   pub kept : 0 < refusalOf (answer x) → Kept x
+  kept h = of-refusal (λ d. Handle d × Made x) (λ s. Slot s × Kept x) (λ s k. k .1) (answer x) h (came .asked)
 
-module _ {R : Type 0} {answer : R → Answer} {Kept : R → Type 0} {numbers : List ℕ} {tests : List (Type 0)} {Handle Slot : ℕ → Type 0} where
-  pub gives : (x : R) → First (place numbers (refusalOf (answer x))) tests → Detail Handle Slot (answer x) → (0 < refusalOf (answer x) → Kept x) → Came answer Kept numbers tests Handle Slot x
-  gives x f d k = record { first = f; detail = d; kept = k }
+  pub made : (d : ℕ) → answer x ≡ Done d → Made x
+  made d e = subst Here e (came .asked) .1
 
-module _ {R : Type 0} {answer : R → Answer} {Kept : R → Type 0} {numbers : List ℕ} {tests : List (Type 0)} {Handle Slot : ℕ → Type 0} {x : R} (came : Came answer Kept numbers tests Handle Slot x) where
   by-number : (n : ℕ) → (refusalOf (answer x) ≡ n) ↔ First (place numbers n) tests
   by-number n = (λ e. subst (λ (k : ℕ). First (place numbers k) tests) e (came .first), λ f. place-only numbers _ n (first-only _ _ tests (came .first) f))
 
@@ -117,7 +139,7 @@ module _ {R : Type 0} {answer : R → Answer} {Kept : R → Type 0} {numbers : L
 
   -- one that has: the detail is the one that is right
   pub detailed : (make : ℕ → Answer) (n : ℕ) (Right : ℕ → Type 0) → ((d : ℕ) → refusalOf (make d) ≡ n) → ((d : ℕ) → answerOf n d ≡ make d)
-      → ((d : ℕ) → Detail Handle Slot (make d) → Right d) → ((d e : ℕ) → Right d → Right e → d ≡ e) → ((d : ℕ) → Right d → Holds (place numbers n) tests)
+      → ((d : ℕ) → Here (make d) → Right d) → ((d e : ℕ) → Right d → Right e → d ≡ e) → ((d : ℕ) → Right d → Holds (place numbers n) tests)
       → (d : ℕ) → (answer x ≡ make d) ↔ (Right d × None (place numbers n) tests)
   detailed make n Right number made right only holds d = (
     λ e. (of-answer d e, by-number n .0 (ap refusalOf e ∙ number d) .1),
@@ -125,11 +147,11 @@ module _ {R : Type 0} {answer : R → Answer} {Kept : R → Type 0} {numbers : L
   )
     where
       of-answer : (d : ℕ) → answer x ≡ make d → Right d
-      of-answer d e = right d (subst (Detail Handle Slot) e (came .detail))
+      of-answer d e = right d (subst Here e (came .asked))
 
   -- done, where the detail is always 0
   pub done-0 : ((d : ℕ) → Handle d → d ≡ 0) → Holds (place numbers 0) tests → (d : ℕ) → (answer x ≡ Done d) ↔ (d ≡ 0) × None (place numbers 0) tests
-  done-0 zero-only h = detailed Done 0 (λ d. d ≡ 0) (λ d. refl) (λ d. refl) zero-only (λ d e p q. p ∙ sym q) (λ d p. h)
+  done-0 zero-only h = detailed Done 0 (λ d. d ≡ 0) (λ d. refl) (λ d. refl) (λ d a. zero-only d (a .0)) (λ d e p q. p ∙ sym q) (λ d p. h)
 
 -- the first test has none before it
 pub alone : {A C : Type 0} → (A ↔ C × Unit {0}) → A ↔ C

@@ -218,7 +218,8 @@ module _ (rule : Rule) (fair : Fair rule) where
       lengths true e = damaged e (sound rule t) refl
       lengths false e = kept Lengths (omega arith)
 
-  module _ (t : Tables) (g : Given) (s : ℕ) (more : List ℕ) (p : Passed t g s more) (sd : Sound rule t) (fits : 8 * s + 8 ≤ length (t .lines)) where
+  -- the line in its slot, whether or not its tree has room
+  module _ (t : Tables) (g : Given) (s : ℕ) (grid : allOnGrid g ≡ true) (long : noLength g ≡ false) (clear : conflicting (t .lines) g ≡ []) (sd : Sound rule t) (fits : 8 * s + 8 ≤ length (t .lines)) where
     abbrev new : List ℕ
     new = placed (t .lines) s g
 
@@ -229,7 +230,7 @@ module _ (rule : Rule) (fair : Fair rule) where
     slots-placed = every← (slotSound new) (slotsOf new) (λ x m. go x m (same-or-not x s))
       where
         go : (x : ℕ) → List·Memᴰ x (slotsOf new) → (x ≡ s) ⊎ (x ≡ s → ⊥) → slotSound new x ≡ true
-        go x m (inl q) = rw q (new-sound (t .lines) g s fits (p .grid) (p .long))
+        go x m (inl q) = rw q (new-sound (t .lines) g s fits grid long)
         go x m (inr q) =
             (others-sound (t .lines) g s fits x q ∙ every→ (slotSound (t .lines)) (slotsOf (t .lines)) (sd .slots) (rw slots-as at m))
 
@@ -245,7 +246,7 @@ module _ (rule : Rule) (fair : Fair rule) where
 
     given-proper : Proper (givenLine g)
     unfolding givenLine
-    given-proper = unfold noLength in (grid-proper 0 (g .x1) (g .y1) (g .x2) (g .y2) (p .long))
+    given-proper = unfold noLength in (grid-proper 0 (g .x1) (g .y1) (g .x2) (g .y2) long)
 
     old-proper : (y : ℕ) → List·Memᴰ y (liveSlots (t .lines)) → Proper (lineAt (t .lines) y)
     old-proper y m = unfold liveSlots in
@@ -256,7 +257,7 @@ module _ (rule : Rule) (fair : Fair rule) where
     unfolding conflicting liveSlots
     clear-of y m =
         let n = of-those (isLive (t .lines)) (slotsOf (t .lines)) m in
-        false-by _ (λ k. List·Memᴰ·not-nil (rw (p .clear) at
+        false-by _ (λ k. List·Memᴰ·not-nil (rw clear at
         (in-those (λ u. isLive (t .lines) u && conflict (lineAt (t .lines) u) (givenLine g)) (slotsOf (t .lines)) (n .0) (and-b _ _ (n .1) k))))
 
     -- the slot number plays no part in a conflict
@@ -268,7 +269,7 @@ module _ (rule : Rule) (fair : Fair rule) where
     unfolding conflict within on isEnd parts leftOf rightOf givenLine
     new-first l = rw (new-line (t .lines) g s fits) refl
 
-    apart-placed : noneConflict new ≡ true
+    pub apart-placed : noneConflict new ≡ true
     unfolding noneConflict
     apart-placed = every← _ (liveSlots new) (λ x m. every← _ (liveSlots new) (λ y n. pair x y m n (same-or-not x s) (same-or-not y s)))
       where
@@ -297,7 +298,7 @@ module _ (rule : Rule) (fair : Fair rule) where
       go (kept r k) = sd
       go (took s more p) =
           let f = free-first (t .lines) s more (p .slot) .there in
-          rebuilt-sound t (placed (t .lines) s g) (slots-placed t g s more p sd f) (apart-placed t g s more p sd f)
+          rebuilt-sound t (placed (t .lines) s g) (slots-placed t g s (p .grid) (p .long) (p .clear) sd f) (apart-placed t g s (p .grid) (p .long) (p .clear) sd f)
           (unfold roomFor in (leb-true _ _ (and-l (leb (length (nodesOf (tree rule (liveLines (placed (t .lines) s g))))) (length (t .nodes))) (leb (length (listingsOf (tree rule (liveLines (placed (t .lines) s g))))) (length (t .listings))) (p .room))))
           (unfold roomFor in (leb-true _ _ (and-r (leb (length (nodesOf (tree rule (liveLines (placed (t .lines) s g))))) (length (t .nodes))) (leb (length (listingsOf (tree rule (liveLines (placed (t .lines) s g))))) (length (t .listings))) (p .room))))
 

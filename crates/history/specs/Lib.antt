@@ -11,4 +11,6 @@ pub mod Answers
 pub mod Holds
 pub mod Refusals
 pub mod Cascade
+pub mod Conditions
 pub mod Exact
+pub mod Unique

@@ -10,8 +10,8 @@ use Rattle.definitions.specs.declared.Given.{Given}
 use Rattle.definitions.specs.Shape.{Line}
 use Rattle.definitions.specs.Tree.{Rule, tree, nodesOf, listingsOf}
 use Rattle.definitions.specs.Tables.{Tables, live, generation, lineAt, liveLines}
-use Rattle.definitions.specs.Calls.{refusalOf, startOf, insertOf, deleteOf, givenLine, placed}
-use Rattle.definitions.specs.Lookup.{Showing, locateOf, showOf}
+use Rattle.definitions.specs.Calls.{refusalOf, cleared, startOf, insertOf, deleteOf, givenLine, placed, freed, rebuilt}
+use Rattle.definitions.specs.Lookup.{Showing, answersTo, shownAt, leafOver, locateOf, showOf}
 use Rattle.definitions.specs.Meaning.{Live, Conflicts, SoundMap}
 
 -- none of the first n tests applies
@@ -103,6 +103,8 @@ module _ (t : Tables) where
   pub record StartExact : Type 0 where
     pub lengths : (started ≡ Lengths) ↔ WrongLengths t
     pub done : (d : ℕ) → (started ≡ Done d) ↔ (d ≡ 0) × None 1 (WrongLengths t ∷ [])
+    -- all tables are 0
+    pub all0 : (d : ℕ) → started ≡ Done d → startOf t .after ≡ cleared t
     pub kept : 0 < refusalOf started → startOf t .after ≡ t
 
 module _ (rule : Rule) (t : Tables) (g : Given) where
@@ -125,6 +127,8 @@ module _ (rule : Rule) (t : Tables) (g : Given) where
     pub noSlot : (inserted ≡ NoSlot) ↔ AllTaken (t .lines) × None 5 insertTests
     pub noRoom : (inserted ≡ NoRoom) ↔ TooLarge rule t g × None 6 insertTests
     pub done : (h : ℕ) → (inserted ≡ Done h) ↔ Handle h × None 7 insertTests
+    -- the line stands in its slot, and the tree tables are those of the live lines
+    pub put : (h s : ℕ) → inserted ≡ Done h → Lowest (Vacant (t .lines)) s → insertOf rule t g .after ≡ rebuilt rule t (placed (t .lines) s g)
     pub kept : 0 < refusalOf inserted → insertOf rule t g .after ≡ t
 
 module _ (rule : Rule) (t : Tables) (h : ℕ) where
@@ -139,6 +143,8 @@ module _ (rule : Rule) (t : Tables) (h : ℕ) where
     pub damaged : (deleted ≡ Damaged) ↔ Unsound rule t × None 1 deleteTests
     pub unknown : (deleted ≡ UnknownHandle) ↔ Unknown (t .lines) h × None 2 deleteTests
     pub done : (d : ℕ) → (deleted ≡ Done d) ↔ (d ≡ 0) × None 3 deleteTests
+    -- the slot is emptied, and the tree tables are those of the live lines
+    pub emptied : (d : ℕ) → deleted ≡ Done d → deleteOf rule t h .after ≡ rebuilt rule t (freed (t .lines) (h / 65536))
     pub kept : 0 < refusalOf deleted → deleteOf rule t h .after ≡ t
 
 module _ (rule : Rule) (t : Tables) (points answers : List ℕ) where
@@ -152,6 +158,7 @@ module _ (rule : Rule) (t : Tables) (points answers : List ℕ) where
     pub lengths : (located ≡ Lengths) ↔ WrongLists t points answers
     pub damaged : (located ≡ Damaged) ↔ Unsound rule t × None 1 locateTests
     pub done : (d : ℕ) → (located ≡ Done d) ↔ (d ≡ 0) × None 2 locateTests
+    pub answered : (d : ℕ) → located ≡ Done d → locateOf rule t points answers .answers ≡ answersTo (t .lines) points
     pub kept : 0 < refusalOf located → locateOf rule t points answers .answers ≡ answers
 
 -- the side and corner are 0, and the part has length 0
@@ -173,4 +180,5 @@ module _ (rule : Rule) (t : Tables) (x y : ℕ) where
     pub damaged : (shown ≡ Damaged) ↔ Unsound rule t × None 1 showTests
     pub offGrid : (shown ≡ OffGrid) ↔ ((16383 < x) ⊎ (16383 < y)) × None 2 showTests
     pub done : (d : ℕ) → (shown ≡ Done d) ↔ (d ≡ 0) × None 3 showTests
+    pub leaf : (d : ℕ) → shown ≡ Done d → showOf rule t x y ≡ shownAt (leafOver rule t x y) (t .listings)
     pub nothing : 0 < refusalOf shown → Nothing (showOf rule t x y)

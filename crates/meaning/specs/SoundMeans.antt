@@ -1,16 +1,16 @@
 -- The test of soundness holds exactly of the maps that the paper calls sound.
-use mathlib.Core.Path.{_≡_, refl, sym, _∙_, ap}
+use mathlib.Core.Path.{_≡_, refl}
 use mathlib.Core.Logic.{_↔_, _⊎_, inl, inr}
-use mathlib.Core.Bool.{Bool, true, false, not, _&&_, _||_}
+use mathlib.Core.Bool.{Bool, true, not, _&&_, _||_}
 use mathlib.Core.List.{List, [], _∷_, List·Memᴰ}
-use Prim.Native.Nat.{ℕ, zero, suc, _+_, _*_, _/_, _≤_, _<_}
+use Prim.Native.Nat.{ℕ, zero, suc, _/_, _<_}
 use native.Mathlib.Omega.{arith}
 use lib.Dec.{leb, eqb}
 use lib.ListN.{length}
-use borrow.Author.Tests.{leb-true, le-leb, eqb-true, eq-eqb, ne-eqb, not-true}
+use borrow.Author.Tests.{leb-true, le-leb, eqb-true, eq-eqb, ne-eqb}
 use Rattle.algebra.specs.Lists.{every→, every←, in-upFrom, to-upFrom}
 use Rattle.algebra.specs.Tests.{or-cases, or-l, or-r, and-l, and-r, and-b}
-use Rattle.algebra.specs.Words.{every, upFrom}
+use Rattle.algebra.specs.Words.{every}
 use Rattle.definitions.specs.Meaning.{Live, LiveSlot, EmptySlot, SoundMap, Conflicts}
 use Rattle.definitions.specs.Shape.{conflict}
 use Rattle.definitions.specs.Tables.{Tables, entry, live, generation, x1, y1, x2, y2, leftLabel, rightLabel, isLive, slotsOf, liveSlots, lineAt, onGrid, liveSound, emptySound, slotSound, noneConflict, sound}
