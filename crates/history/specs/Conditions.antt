@@ -103,7 +103,7 @@ pub lowest-only : {P : ℕ → Type 0} (s u : ℕ) → Lowest P s → Lowest P u
 lowest-only s u a b = omega (arith, a .least u (b .holds), b .least s (a .holds))
 
 module _ (lines : List ℕ) where
-  live-means : (s : ℕ) → (isLive lines s ≡ true) ↔ (live lines s ≡ 1)
+  pub live-means : (s : ℕ) → (isLive lines s ≡ true) ↔ (live lines s ≡ 1)
   unfolding isLive
   live-means s = eqb-means _ _
 

@@ -1,9 +1,9 @@
 -- The calls answer by the refusal table, and a refusal leaves all as it was.
 use mathlib.Core.Path.{_≡_, refl, sym, _∙_, ap, subst}
-use mathlib.Core.Logic.{_↔_}
+use mathlib.Core.Logic.{_⊎_, inl, inr, _↔_}
 use mathlib.Core.Bool.{true, not, _&&_}
 use mathlib.Core.List.{List, [], _∷_}
-use Prim.Native.Nat.{ℕ, _+_, _*_, _/_, _<_}
+use Prim.Native.Nat.{ℕ, _+_, _*_, _/_, _≤_, _<_}
 use native.Mathlib.Omega.{arith}
 use lib.Dec.{eqb}
 use lib.ListN.{length}
@@ -13,6 +13,7 @@ use Rattle.definitions.specs.declared.Answer.the-variants.{Done, Lengths, Damag
 use Rattle.definitions.specs.declared.Given.{Given}
 use Rattle.definitions.specs.Calls.{Reply, reply, cleared, startOf, givenLine, allOnGrid, noLength, conflicting, freeSlots, placed, known, freed, rebuilt, roomFor, insertOf, deleteOf}
 use Rattle.definitions.specs.Lookup.{Located, Showing, answersTo, notShown, shownAt, leafOver, locateOf, showOf}
+use Rattle.definitions.specs.Meaning.{Live}
 use Rattle.definitions.specs.Shape.{conflict}
 use Rattle.definitions.specs.Tables.{Tables, lengthsFit, generation, isLive, slotsOf, lineAt, liveLines, onGrid, sound}
 use Rattle.definitions.specs.Tree.{Rule}
@@ -21,7 +22,7 @@ use Rattle.meaning.specs.Crossing.{Proper}
 use Rattle.meaning.specs.Sound.{sound→, grid-proper}
 use Rattle.meaning.specs.SoundMeans.{sound-means, live-is-proper}
 use Rattle.history.specs.Cascade.{tested, gives, by-first, Came, kept, made, plain, detailed, done-0, alone}
-use Rattle.history.specs.Refusals.{Some, Lowest, WrongLengths, Unsound, EndsEqual, InTheWay, AllTaken, Vacant, NeedsMore, TooLarge, Handle, Nothing, StartExact, InsertExact, DeleteExact, LocateExact, ShowExact, insertTests, deleteTests, locateTests, showTests}
+use Rattle.history.specs.Refusals.{None, Some, Retired, Lowest, WrongLengths, Unsound, EndsEqual, InTheWay, AllTaken, Vacant, NeedsMore, TooLarge, Handle, Nothing, StartExact, InsertExact, DeleteExact, LocateExact, ShowExact, insertTests, deleteTests, locateTests, showTests}
 use Rattle.history.specs.Conditions.{lengths-mean, wrong-means, unsound-means, above-means, place-means, ends-mean, lowest-first, none-passes, lowest-only, way-means, vacant-means, taken-means, not-taken, room-means, unknown-means, lists-mean}
 
 -- ---- The calls
@@ -125,19 +126,19 @@ module _ (rule : Rule) (t : Tables) (g : Given) where
     way-is : (u : ℕ) → ((u < length (t .lines) / 8) × (isLive (t .lines) u && conflict (lineAt (t .lines) u) (givenLine g) ≡ true)) ↔ InTheWay (t .lines) g u
     way-is = way-means (t .lines) g (live-is-proper (t .lines) (sound→ rule t (sound-means rule t .1 (stable (sound rule t) (sound-means rule t) n2)) .slots)) (given-proper n4)
 
-    first-way : (s : ℕ) (more : List ℕ) → conflicting (t .lines) g ≡ s ∷ more → Lowest (InTheWay (t .lines) g) s
+    pub first-way : (s : ℕ) (more : List ℕ) → conflicting (t .lines) g ≡ s ∷ more → Lowest (InTheWay (t .lines) g) s
     unfolding conflicting slotsOf
     first-way s more e = lowest-first _ _ way-is e
 
-    no-way : conflicting (t .lines) g ≡ [] → ¬ Some (InTheWay (t .lines) g)
+    pub no-way : conflicting (t .lines) g ≡ [] → ¬ Some (InTheWay (t .lines) g)
     unfolding conflicting slotsOf
     no-way e = none-passes _ _ way-is e
 
-  first-free : (s : ℕ) (more : List ℕ) → freeSlots (t .lines) ≡ s ∷ more → Lowest (Vacant (t .lines)) s
+  pub first-free : (s : ℕ) (more : List ℕ) → freeSlots (t .lines) ≡ s ∷ more → Lowest (Vacant (t .lines)) s
   unfolding freeSlots slotsOf
   first-free s more e = lowest-first _ _ (vacant-means (t .lines)) e
 
-  no-free : freeSlots (t .lines) ≡ [] → AllTaken (t .lines)
+  pub no-free : freeSlots (t .lines) ≡ [] → AllTaken (t .lines)
   unfolding freeSlots slotsOf
   no-free e = taken-means (t .lines) (none-passes _ _ (vacant-means (t .lines)) e)
 
@@ -180,3 +181,19 @@ module _ (rule : Rule) (t : Tables) (g : Given) where
         put = put;
         kept = kept came-insert;
       }
+
+  -- where entries have 16 bits, a retired slot is one of generation 65,535
+  pub no-slot-16 : ((s : ℕ) → generation (t .lines) s ≤ 65535)
+      → (insertOf rule t g .answer ≡ NoSlot) ↔ ((s : ℕ) → s < length (t .lines) / 8 → Live (t .lines) s ⊎ (generation (t .lines) s ≡ 65535)) × None 5 (insertTests rule t g)
+  no-slot-16 small = (
+    λ e. let h = insert-exact .noSlot .0 e in (λ s k. last s (h .0 s k), h .1),
+    λ h. insert-exact .noSlot .1 (λ s k. retired s (h .0 s k), h .1),
+  )
+    where
+      last : (s : ℕ) → Live (t .lines) s ⊎ Retired (t .lines) s → Live (t .lines) s ⊎ (generation (t .lines) s ≡ 65535)
+      last s (inl v) = inl v
+      last s (inr r) = inr (omega (arith, small s))
+
+      retired : (s : ℕ) → Live (t .lines) s ⊎ (generation (t .lines) s ≡ 65535) → Live (t .lines) s ⊎ Retired (t .lines) s
+      retired s (inl v) = inl v
+      retired s (inr e) = inr (omega arith)

@@ -253,7 +253,7 @@ module _ (rule : Rule) (fair : Fair rule) where
         (let n = of-those (isLive (t .lines)) (slotsOf (t .lines)) m in
         live-proper (t .lines) y (every→ (slotSound (t .lines)) (slotsOf (t .lines)) (sd .slots) (n .0)) (n .1))
 
-    clear-of : (y : ℕ) → List·Memᴰ y (liveSlots (t .lines)) → conflict (lineAt (t .lines) y) (givenLine g) ≡ false
+    pub clear-of : (y : ℕ) → List·Memᴰ y (liveSlots (t .lines)) → conflict (lineAt (t .lines) y) (givenLine g) ≡ false
     unfolding conflicting liveSlots
     clear-of y m =
         let n = of-those (isLive (t .lines)) (slotsOf (t .lines)) m in

@@ -14,3 +14,4 @@ pub mod Cascade
 pub mod Conditions
 pub mod Exact
 pub mod Unique
+pub mod Room

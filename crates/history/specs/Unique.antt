@@ -1,20 +1,18 @@
 -- A call's promise leaves no choice: two results that it allows are equal. A refusal keeps all, and what is accepted leaves a sound map.
-use mathlib.Core.Path.{_≡_, refl, sym, _∙_, ap, subst}
-use mathlib.Core.Logic.{_↔_}
+use mathlib.Core.Path.{_≡_, sym, _∙_, ap, subst}
 use mathlib.Core.List.{List}
 use Prim.Native.Nat.{ℕ, _<_}
-use native.Mathlib.Omega.{arith}
 use Rattle.definitions.specs.declared.Answer.{Answer}
 use Rattle.definitions.specs.declared.Answer.the-variants.{Done}
 use Rattle.definitions.specs.declared.Given.{Given}
 use Rattle.definitions.specs.declared.Shown.{Shown}
-use Rattle.definitions.specs.Calls.{Reply, reply, refusalOf, detailOf, numberOf, startOf, insertOf, deleteOf}
+use Rattle.definitions.specs.Calls.{Reply, reply, refusalOf, startOf, insertOf, deleteOf}
 use Rattle.definitions.specs.Lookup.{Located, locateOf, showOf}
 use Rattle.definitions.specs.Meaning.{SoundMap}
 use Rattle.definitions.specs.Tables.{Tables, lengthsFit, sound}
 use Rattle.definitions.specs.Tree.{Rule}
 use Rattle.meaning.specs.Fair.{Fair}
-use Rattle.history.specs.Exact.{start-exact, insert-exact, delete-exact, locate-exact, show-exact}
+use Rattle.history.specs.Exact.{start-exact, insert-exact, delete-exact, locate-exact}
 use Rattle.meaning.specs.Chain.{stable}
 use Rattle.meaning.specs.Sound.{Sound, sound→, sound←}
 use Rattle.meaning.specs.SoundMeans.{sound-means}
