@@ -58,7 +58,7 @@ place-only (m ∷ more) n k e = go (eqb n m) (eqb k m) refl refl e (place-only m
 
 -- ---- From numbers to answers
 
-abbrev answerOf : ℕ → ℕ → Answer
+abbrev pub answerOf : ℕ → ℕ → Answer
 answerOf zero d = Done d
 answerOf (suc zero) d = Lengths
 answerOf (suc (suc zero)) d = Damaged
@@ -69,7 +69,7 @@ answerOf (suc (suc (suc (suc (suc (suc zero)))))) d = NoSlot
 answerOf (suc (suc (suc (suc (suc (suc (suc zero))))))) d = NoRoom
 answerOf (suc (suc (suc (suc (suc (suc (suc (suc n)))))))) d = UnknownHandle
 
-answer-is : (a : Answer) → a ≡ answerOf (refusalOf a) (detailOf a)
+pub answer-is : (a : Answer) → a ≡ answerOf (refusalOf a) (detailOf a)
 answer-is (Done d) = refl
 answer-is Lengths = refl
 answer-is Damaged = refl

@@ -32,9 +32,9 @@ module _ (t : Tables) where
   unfolding lengthsFit
   lengths-mean = (
     λ e. let h = chain→ (eqb (length (t .lines) % 8) 0) length-tests e in
-    slots (eqb-true _ _ (h .0)) (leb-true _ _ (h .1 .0)) (leb-true _ _ (h .1 .1 .0)) (leb-true _ _ (h .1 .1 .1 .0), leb-true _ _ (h .1 .1 .1 .1 .0)) (leb-true _ _ (h .1 .1 .1 .1 .1 .0)),
+        slots (eqb-true _ _ (h .0)) (leb-true _ _ (h .1 .0)) (leb-true _ _ (h .1 .1 .0)) (leb-true _ _ (h .1 .1 .1 .0), leb-true _ _ (h .1 .1 .1 .1 .0)) (leb-true _ _ (h .1 .1 .1 .1 .1 .0)),
     λ f. chain← (eqb (length (t .lines) % 8) 0) length-tests
-    (eq-eqb (length (t .lines) % 8) 0 (omega (arith, f .lines .1)), (le-leb 8 (length (t .lines)) (omega (arith, f .lines .1)), (le-leb (length (t .lines)) 8192 (omega (arith, f .lines .1)), (le-leb _ _ (f .nodes .0), (le-leb _ _ (f .nodes .1), (le-leb _ _ (f .listings), tt)))))),
+        (eq-eqb (length (t .lines) % 8) 0 (omega (arith, f .lines .1)), (le-leb 8 (length (t .lines)) (omega (arith, f .lines .1)), (le-leb (length (t .lines)) 8192 (omega (arith, f .lines .1)), (le-leb _ _ (f .nodes .0), (le-leb _ _ (f .nodes .1), (le-leb _ _ (f .listings), tt)))))),
   )
     where
       slots : length (t .lines) % 8 ≡ 0 → 8 ≤ length (t .lines) → length (t .lines) ≤ 8192 → (1 ≤ length (t .nodes)) × (length (t .nodes) ≤ 16384) → length (t .listings) ≤ 16384 → FitLengths t
@@ -56,7 +56,7 @@ module _ (g : Given) where
   unfolding allOnGrid
   above-means = (
     λ e. chain-fails (onGrid (g .x1)) grid-tests (not-true (allOnGrid g) e) (λ f. inl (leb-false _ _ f))
-    (λ f. inr (inl (leb-false _ _ f)), (λ f. inr (inr (inl (leb-false _ _ f))), (λ f. inr (inr (inr (leb-false _ _ f))), tt))),
+        (λ f. inr (inl (leb-false _ _ f)), (λ f. inr (inr (inl (leb-false _ _ f))), (λ f. inr (inr (inr (leb-false _ _ f))), tt))),
     λ h. ap not (false-by (allOnGrid g) (λ e. back h (chain→ (onGrid (g .x1)) grid-tests e))),
   )
     where
@@ -90,11 +90,11 @@ module _ {P : ℕ → Type 0} (p : ℕ → Bool) (n : ℕ) (means : (u : ℕ) �
   )
 
   pub lowest-first : {s : ℕ} {more : List ℕ} → those p (upFrom 0 n) ≡ s ∷ more → Lowest P s
-  lowest-first {s} {more} e = record { holds = passing s .0 (rw e (List·Memᴰ·head refl)); least = λ u h. least (rw e at (those-rising p (upFrom-rising 0 n))) u (rw e at (passing u .1 h)) }
+  lowest-first {s} {more} e = record { holds = passing s .0 (rw e (List·Memᴰ·head refl)); least = λ u h. omega (arith, from (rw e at (those-rising p (upFrom-rising 0 n))) u (rw e at (passing u .1 h))) }
     where
-      least : Rising (s ∷ more) → (u : ℕ) → List·Memᴰ u (s ∷ more) → s ≤ u
-      least r u (List·Memᴰ·head q) = omega arith
-      least (one f r) u (List·Memᴰ·tail m) = omega (arith, f u m)
+      from : Rising (s ∷ more) → (u : ℕ) → List·Memᴰ u (s ∷ more) → s ≤ u
+      from r u (List·Memᴰ·head q) = omega arith
+      from (one f r) u (List·Memᴰ·tail m) = omega (arith, f u m)
 
   pub none-passes : those p (upFrom 0 n) ≡ [] → ¬ Some P
   none-passes e h = List·Memᴰ·not-nil (rw e at (passing (h .0) .1 (h .1)))
@@ -111,7 +111,7 @@ module _ (lines : List ℕ) where
     pub way-means : (u : ℕ) → ((u < length lines / 8) × (isLive lines u && conflict (lineAt lines u) (givenLine g) ≡ true)) ↔ InTheWay lines g u
     way-means u = (
       λ h. let v = live (h .0) (and-l (isLive lines u) (conflict (lineAt lines u) (givenLine g)) (h .1)) in
-      record { lives = v; conflicts = conflict-iff _ _ (proper u v) long .0 (and-r (isLive lines u) (conflict (lineAt lines u) (givenLine g)) (h .1)) },
+          record { lives = v; conflicts = conflict-iff _ _ (proper u v) long .0 (and-r (isLive lines u) (conflict (lineAt lines u) (givenLine g)) (h .1)) },
       λ w. (w .lives .there, and-b _ _ (live-means u .1 (w .lives .lives)) (conflict-iff _ _ (proper u (w .lives)) long .1 (w .conflicts))),
     )
       where
@@ -123,9 +123,9 @@ module _ (lines : List ℕ) where
     λ h. record {
       there = h .0;
       dead = λ v. not-means (isLive lines u) (live-means u) .0 (and-l (not (isLive lines u)) (ltb (generation lines u) 65535) (h .1)) (v .lives);
-      young = ltb-true (generation lines u) 65535 (and-r (not (isLive lines u)) (ltb (generation lines u) 65535) (h .1));
+      young = omega (arith, ltb-true (generation lines u) 65535 (and-r (not (isLive lines u)) (ltb (generation lines u) 65535) (h .1)));
     },
-    λ v. (v .there, and-b _ _ (not-means (isLive lines u) (live-means u) .1 (λ e. v .dead (record { there = v .there; lives = e }))) (lt-ltb _ _ (v .young))),
+    λ v. (v .there, and-b _ _ (not-means (isLive lines u) (live-means u) .1 (λ e. v .dead (record { there = v .there; lives = e }))) (lt-ltb (generation lines u) 65535 (omega (arith, v .young)))),
   )
 
   pub taken-means : ¬ Some (Vacant lines) → AllTaken lines
@@ -176,21 +176,21 @@ module _ (lines : List ℕ) (h : ℕ) where
   unfolding known
   unknown-means = (
     λ e. chain-fails (ltb (h / 65536) (length lines / 8)) known-tests (not-true (known lines h) e) (λ f. beyond (ltb-false _ _ f))
-    (λ f. notLive (fails (isLive lines (h / 65536)) (live-means lines (h / 65536)) f), (λ f. otherGeneration (eqb-false _ _ f), tt)),
+        (λ f. notLive (fails (isLive lines (h / 65536)) (live-means lines (h / 65536)) f), (λ f. otherGeneration (λ q. eqb-false (generation lines (h / 65536)) (h % 65536) f (omega (arith, q))), tt)),
     λ u. ap not (false-by (known lines h) (λ e. back u (chain→ (ltb (h / 65536) (length lines / 8)) known-tests e))),
   )
     where
       back : Unknown lines h → (ltb (h / 65536) (length lines / 8) ≡ true) × Each known-tests → ⊥
       back (beyond k) e = omega (arith, ltb-true (h / 65536) (length lines / 8) (e .0))
       back (notLive k) e = k (live-means lines (h / 65536) .0 (e .1 .0))
-      back (otherGeneration k) e = k (eqb-true _ _ (e .1 .1 .0))
+      back (otherGeneration k) e = k (omega (arith, eqb-true (generation lines (h / 65536)) (h % 65536) (e .1 .1 .0)))
 
 -- 1 of locate
 module _ (t : Tables) (points answers : List ℕ) where
   pub lists-mean : (not (lengthsFit t && eqb (length points) (2 * length answers)) ≡ true) ↔ WrongLists t points answers
   lists-mean = (
     λ e. chain-fails (lengthsFit t) (eqb (length points) (2 * length answers) ∷ []) (not-true (lengthsFit t && eqb (length points) (2 * length answers)) e)
-    (λ f. tables (fails (lengthsFit t) (lengths-mean t) f)) (λ f. uneven (eqb-false _ _ f) (order (length points % 2) 0), tt),
+        (λ f. tables (fails (lengthsFit t) (lengths-mean t) f)) (λ f. uneven (eqb-false _ _ f) (order (length points % 2) 0), tt),
     λ w. ap not (false-by (lengthsFit t && eqb (length points) (2 * length answers)) (λ e. back w (and-l (lengthsFit t) (eqb (length points) (2 * length answers)) e) (eqb-true _ _ (and-r (lengthsFit t) (eqb (length points) (2 * length answers)) e)))),
   )
     where
@@ -202,4 +202,3 @@ module _ (t : Tables) (points answers : List ℕ) where
       back (tables w) e f = w (lengths-mean t .0 e)
       back (odd w) e f = omega arith
       back (notHalf w) e f = w (omega arith)
-

@@ -146,7 +146,7 @@ module _ (rule : Rule) (t : Tables) (g : Given) where
   roomy s low n l = n (subst (λ (u : ℕ). NeedsMore rule t (liveLines (placed (t .lines) u g))) (lowest-only _ _ (l .takes) low) (l .more))
 
   handle-only : (h k : ℕ) → Handle rule t g h → Handle rule t g k → h ≡ k
-  handle-only h k a b = a .2 ∙ ap (λ (s : ℕ). s * 65536 + (generation (t .lines) s + 1)) (lowest-only _ _ (a .1) (b .1)) ∙ sym (b .2)
+  handle-only h k a b = let e : a .0 ≡ b .0 = lowest-only _ _ (a .1) (b .1) in cc (a .2, b .2)
 
   came-insert : Inserted (insertOf rule t g)
   unfolding insertOf

@@ -141,5 +141,5 @@ module _ (rule : Rule) (fair : Fair rule) (t : Tables) (g : Given) where
   no-room-exact = (
     λ e. let h = insert-exact rule t g .noRoom .0 e in (same-room (h .1) (h .0 .slot) (h .0 .takes .holds) .0 (h .0 .more), h .1),
     λ h. let u = slot-left (h .1) (freeSlots (t .lines)) refl in
-    insert-exact rule t g .noRoom .1 (record { slot = u .0; takes = u .1; more = same-room (h .1) (u .0) (u .1 .holds) .1 (h .0) }, h .1),
+        insert-exact rule t g .noRoom .1 (record { slot = u .0; takes = u .1; more = same-room (h .1) (u .0) (u .1 .holds) .1 (h .0) }, h .1),
   )

@@ -1,21 +1,23 @@
 -- A call's promise leaves no choice: two results that it allows are equal. A refusal keeps all, and what is accepted leaves a sound map.
 use mathlib.Core.Path.{_≡_, sym, _∙_, ap, subst}
-use mathlib.Core.List.{List}
-use Prim.Native.Nat.{ℕ, _<_}
+use mathlib.Core.List.{List, []}
+use Prim.Native.Nat.{ℕ, _+_, _*_, _<_}
+use native.Mathlib.Omega.{arith}
 use Rattle.definitions.specs.declared.Answer.{Answer}
 use Rattle.definitions.specs.declared.Answer.the-variants.{Done}
 use Rattle.definitions.specs.declared.Given.{Given}
 use Rattle.definitions.specs.declared.Shown.{Shown}
-use Rattle.definitions.specs.Calls.{Reply, reply, refusalOf, startOf, insertOf, deleteOf}
+use Rattle.definitions.specs.Calls.{Reply, reply, refusalOf, detailOf, numberOf, startOf, insertOf, deleteOf}
 use Rattle.definitions.specs.Lookup.{Located, locateOf, showOf}
 use Rattle.definitions.specs.Meaning.{SoundMap}
 use Rattle.definitions.specs.Tables.{Tables, lengthsFit, sound}
 use Rattle.definitions.specs.Tree.{Rule}
 use Rattle.meaning.specs.Fair.{Fair}
-use Rattle.history.specs.Exact.{start-exact, insert-exact, delete-exact, locate-exact}
+use Rattle.history.specs.Exact.{start-exact, insert-exact, delete-exact, locate-exact, show-exact}
 use Rattle.meaning.specs.Chain.{stable}
 use Rattle.meaning.specs.Sound.{Sound, sound→, sound←}
 use Rattle.meaning.specs.SoundMeans.{sound-means}
+use Rattle.history.specs.Cascade.{answerOf, answer-is}
 use Rattle.history.specs.Conditions.{lengths-mean}
 use Rattle.history.specs.Refusals.{Unsound}
 use Rattle.history.specs.Kept.{insert-sound, delete-sound, start-sound}
@@ -92,6 +94,14 @@ module _ (t : Tables) where
     locate-refused points answers p h =
         ap (λ (x : Located). x .answers) p ∙ locate-exact rule t points answers .kept (subst (λ (x : Located). 0 < refusalOf (x .answer)) p h)
 
+    pub numbers-refused : (x y : ℕ) {r : Shown} → AllowsNumbers rule t x y r → 0 < refusalOf (r .answer) → (r .side ≡ 0) × (r .west .0 ≡ 0) × (r .south .0 ≡ 0)
+    numbers-refused x y p h =
+        let n = show-exact rule t x y .nothing (subst (λ (r : Shown). 0 < refusalOf (r .answer)) p h) in
+        (ap (λ (r : Shown). r .side) p ∙ n .side, ap (λ (r : Shown). r .west .0) p ∙ n .west, ap (λ (r : Shown). r .south .0) p ∙ n .south)
+
+    pub part-refused : (x y : ℕ) {us : List ℕ} → AllowsPart rule t x y us → 0 < refusalOf (showOf rule t x y .told .answer) → us ≡ []
+    part-refused x y p h = p ∙ show-exact rule t x y .nothing h .part
+
 -- ---- What is accepted leaves a sound map
 
 module _ (rule : Rule) (fair : Fair rule) (t : Tables) where
@@ -117,3 +127,13 @@ module _ (rule : Rule) (fair : Fair rule) (t : Tables) where
       let n = start-exact t .done d .0 e .1 in
       let fit = stable (lengthsFit t) (lengths-mean t) (n .0) in
       is-sound (startOf t) (subst (Sound rule) (sym (start-exact t .all0 d e)) (start-sound rule fair t (fit .nodes .0))) p
+
+-- ---- The one number that the host gets tells the whole answer
+pub number-tells : (a b : Answer) → detailOf a < 4294967296 → detailOf b < 4294967296 → numberOf a ≡ numberOf b → a ≡ b
+number-tells a b h k e = answer-is a ∙ (λ i. answerOf (refusal i) (detail i)) ∙ sym (answer-is b)
+  where
+    refusal : refusalOf a ≡ refusalOf b
+    refusal = omega arith
+
+    detail : detailOf a ≡ detailOf b
+    detail = omega arith

@@ -45,10 +45,11 @@ module _ (lines : List ℕ) (s : ℕ) where
 
   live-slot← : LiveSlot lines s → (isLive lines s ≡ true) × (liveSound lines s ≡ true)
   unfolding isLive liveSound
-  live-slot← l =
-      (eq-eqb _ _ (l .lives),
-      chain← (leb 1 (generation lines s)) live-tests
-      (le-leb _ _ (l .given), (le-leb _ _ (l .onGrid .0), (le-leb _ _ (l .onGrid .1), (le-leb _ _ (l .onGrid .2), (le-leb _ _ (l .onGrid .3), (same-means .1 (l .distinct), tt)))))))
+  live-slot← l = (
+    eq-eqb _ _ (l .lives),
+    chain← (leb 1 (generation lines s)) live-tests
+        (le-leb _ _ (l .given), (le-leb _ _ (l .onGrid .0), (le-leb _ _ (l .onGrid .1), (le-leb _ _ (l .onGrid .2), (le-leb _ _ (l .onGrid .3), (same-means .1 (l .distinct), tt)))))),
+  )
 
   abbrev empty-tests : List Bool
   empty-tests = eqb (x1 lines s) 0 ∷ eqb (y1 lines s) 0 ∷ eqb (x2 lines s) 0 ∷ eqb (y2 lines s) 0 ∷ eqb (leftLabel lines s) 0 ∷ eqb (rightLabel lines s) 0 ∷ []
