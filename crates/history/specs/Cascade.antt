@@ -7,19 +7,29 @@ use Prim.Native.Nat.{ℕ, zero, suc, _<_}
 use native.Mathlib.Omega.{arith}
 use lib.Dec.{eqb}
 use borrow.Author.Tests.{eqb-true}
-use Rattle.algebra.specs.Tests.{no-path}
 use Rattle.algebra.specs.Words.{if_then_else_}
 use Rattle.definitions.specs.declared.Answer.{Answer}
 use Rattle.definitions.specs.declared.Answer.the-variants.{Done, Lengths, Damaged, OffGrid, NoLength, Conflict, NoSlot, NoRoom, UnknownHandle}
 use Rattle.definitions.specs.Calls.{refusalOf, detailOf}
+use Rattle.meaning.specs.Chain.{fails}
 use Rattle.history.specs.Refusals.{None}
 
 -- ---- One test
 
-module _ {R C : Type 0} (P : R → Type 0) where
-  pub tested : (b : Bool) {x y : R} → ((b ≡ true) ↔ C) → (C → P x) → (¬ C → P y) → P (if b then x else y)
-  tested true m f g = f (m .0 refl)
-  tested false m f g = g (λ c. no-path (m .1 c))
+module _ {R : Type 0} (P : R → Type 0) where
+  pub branch : (b : Bool) {x y : R} → (b ≡ true → P x) → (b ≡ false → P y) → P (if b then x else y)
+  branch true f g = f refl
+  branch false f g = g refl
+
+  -- by what the test says
+  pub tested : {C : Type 0} (b : Bool) {x y : R} → ((b ≡ true) ↔ C) → (C → P x) → (¬ C → P y) → P (if b then x else y)
+  tested b m f g = branch b (λ e. f (m .0 e)) (λ e. g (fails b m e))
+
+  -- by the first of a list, or that there is none
+  pub by-first : (xs : List ℕ) {none : R} {some : ℕ → List ℕ → R} → ((s : ℕ) (more : List ℕ) → xs ≡ s ∷ more → P (some s more)) → (xs ≡ [] → P none)
+      → P (elim xs [ s ∷ more ↦ some s more | [] ↦ none ])
+  by-first [] f g = g refl
+  by-first (s ∷ more) f g = f s more refl
 
 -- ---- The first that applies
 
@@ -156,9 +166,3 @@ module _ {R : Type 0} {answer : R → Answer} {Kept Made : R → Type 0} {number
 -- the first test has none before it
 pub alone : {A C : Type 0} → (A ↔ C × Unit {0}) → A ↔ C
 alone h = (λ a. h .0 a .0, λ c. h .1 (c, tt))
-
--- the first of a list decides, or that there is none
-pub by-first : {R : Type 0} (P : R → Type 0) (xs : List ℕ) {none : R} {some : ℕ → List ℕ → R} → ((s : ℕ) (more : List ℕ) → xs ≡ s ∷ more → P (some s more)) → (xs ≡ [] → P none)
-    → P (elim xs [ s ∷ more ↦ some s more | [] ↦ none ])
-by-first P [] f g = g refl
-by-first P (s ∷ more) f g = f s more refl

@@ -63,7 +63,7 @@ pub record InTheWay (lines : List ℕ) (g : Given) (s : ℕ) : Type 0 where
 
 -- ---- 6 No slot
 
--- no generation is left; in 16 bits, it is 65,535
+-- no generation is left; an entry has 16 bits, so it is 65,535 (`no-slot-16`)
 abbrev pub Retired : List ℕ → ℕ → Type 0
 Retired lines s = 65535 ≤ generation lines s
 
@@ -82,7 +82,7 @@ pub record Vacant (lines : List ℕ) (s : ℕ) : Type 0 where
 abbrev pub NeedsMore : Rule → Tables → List Line → Type 0
 NeedsMore rule t ls = (length (t .nodes) < length (nodesOf (tree rule ls))) ⊎ (length (t .listings) < length (listingsOf (tree rule ls)))
 
--- the live lines and the new one, in the slot that it would take
+-- the live lines and the new one, in the slot that it would take; over a fair rule the slot plays no part (`no-room-exact`)
 pub record TooLarge (rule : Rule) (t : Tables) (g : Given) : Type 0 where
   pub slot : ℕ
   pub takes : Lowest (Vacant (t .lines)) slot
@@ -114,7 +114,7 @@ module _ (rule : Rule) (t : Tables) (g : Given) where
   abbrev pub inserted : Answer
   inserted = insertOf rule t g .answer
 
-  -- the handle that is given: slot × 65,536 + generation, raised by 1, of the lowest slot that is neither live nor retired
+  -- slot × 65,536 + generation, raised by 1, of the lowest slot that is not live and has generation below 65,535
   abbrev pub Handle : ℕ → Type 0
   Handle h = (s : ℕ) × Lowest (Vacant (t .lines)) s × (h ≡ s * 65536 + (generation (t .lines) s + 1))
 
