@@ -74,7 +74,7 @@ alike-at rule fair a b o p f (suc n) w s =
     go false e h = rw (by-divided rule (liveLines a) n w s e, by-divided rule (liveLines b) n w s (sym alike ∙ e)) h
 
 -- the live lines of a sound map are a set
-same-conflict : (l m : Line) → SameEnds l m → conflict l m ≡ true
+pub same-conflict : (l m : Line) → SameEnds l m → conflict l m ≡ true
 unfolding conflict isEnd
 same-conflict l m e =
     or-r (within (l .a) m || within (l .b) m || within (m .a) l || within (m .b) l || parts l m && parts m l) (isEnd (l .a) m && isEnd (l .b) m)

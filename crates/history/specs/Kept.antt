@@ -4,7 +4,7 @@ use Rattle.definitions.specs.declared.Answer.the-variants.{Done, Lengths, Damag
 use Rattle.definitions.specs.declared.Given.{Given}
 use Rattle.algebra.specs.Lists.{of-those, in-those, every→, every←, padded-length}
 use Rattle.algebra.specs.Tests.{no-path, and-l, and-r, and-b, or-l, or-r, false-by}
-use Rattle.algebra.specs.Words.{those, every, if_then_else_, padded}
+use Rattle.algebra.specs.Words.{those, every, padded}
 use Rattle.definitions.specs.Calls.{cleared, givenLine, Reply, reply, refusalOf, insertOf, deleteOf, rebuilt, placed, freed, allOnGrid, noLength, conflicting, freeSlots, roomFor, known}
 use Rattle.definitions.specs.History.{Call, insert, delete, locate, show, replyTo, afterAll}
 use Rattle.definitions.specs.Shape.{within, Line, conflict, on, isEnd, parts, leftOf, rightOf}
@@ -16,6 +16,7 @@ use Rattle.meaning.specs.Rules.{fewer, by-leaf}
 use Rattle.meaning.specs.Changes.{slots-freed, apart-freed, sub-freed, slots-placed}
 use Rattle.meaning.specs.Slots.{same-or-not, placed-slots, others-live, others-line, new-line, zero-at, none-live, no-lines}
 use Rattle.meaning.specs.Sound.{Sound, sound←, fits-nodes, fits-listings, conflict-back, grid-proper, live-proper}
+use Rattle.history.specs.Cascade.{branch, by-first}
 use Rattle.history.specs.Ledger.{free-first, Deleted, refused, removed, delete-is, known-there}
 use mathlib.Core.Path.{_≡_, refl, sym, _∙_, ap}
 use mathlib.Core.Logic.{_⊎_, inl, inr}
@@ -25,7 +26,7 @@ use Prim.Native.Nat.{ℕ, zero, suc, _+_, _*_, _-_, _/_, _%_, _≤_, _<_}
 use native.Mathlib.Omega.{arith}
 use lib.Dec.{leb, ltb, eqb}
 use lib.ListN.{length, replicate, length-replicate}
-use borrow.Author.Tests.{leb-true, eq-eqb}
+use borrow.Author.Tests.{leb-true, eq-eqb, not-false}
 
 -- Start leaves a sound map
 zero-slot : (n x : ℕ) → slotSound (replicate n 0) x ≡ true
@@ -80,49 +81,22 @@ module _ (rule : Rule) (fair : Fair rule) where
 
   pub insert-outcome : (t : Tables) (g : Given) → Outcome t g (insertOf rule t g)
   unfolding insertOf
-  insert-outcome t g = lengths (lengthsFit t) refl
+  insert-outcome t g =
+      branch O (not (lengthsFit t)) (λ e. kept Lengths (omega arith))
+      (λ e1. branch O (not (sound rule t)) (λ e. kept Damaged (omega arith))
+      (λ e2. branch O (not (allOnGrid g)) (λ e. kept OffGrid (omega arith))
+      (λ e3. branch O (noLength g) (λ e. kept NoLength (omega arith))
+      (λ e4. by-first O (conflicting (t .lines) g) (λ s more e. kept (Conflict s) (omega arith))
+      (λ e5. by-first O (freeSlots (t .lines))
+      (λ s more e6. branch O (not (roomFor rule t (placed (t .lines) s g))) (λ e. kept NoRoom (omega arith))
+      (λ e7. took s more (record { fit = not-false _ e1; ok = not-false _ e2; grid = not-false _ e3; long = e4; clear = e5; slot = e6; room = not-false _ e7 })))
+      (λ e. kept NoSlot (omega arith)))))))
     where
-      end : ℕ → Reply
-      end s = reply (Done (s * 65536 + (generation (t .lines) s + 1))) (rebuilt rule t (placed (t .lines) s g))
+      O : Reply → Type 0
+      O = Outcome t g
 
-      by-slot : List ℕ → Reply
-      by-slot fs = elim fs [ [] ↦ reply NoSlot t | s ∷ more ↦ if not (roomFor rule t (placed (t .lines) s g)) then reply NoRoom t else end s ]
-
-      by-conflict : List ℕ → Reply
-      by-conflict cs = elim cs [ s ∷ more ↦ reply (Conflict s) t | [] ↦ by-slot (freeSlots (t .lines)) ]
-
-      conflicts : lengthsFit t ≡ true → sound rule t ≡ true → allOnGrid g ≡ true → noLength g ≡ false → (cs : List ℕ) → conflicting (t .lines) g ≡ cs → Outcome t g (by-conflict cs)
-      conflicts e f h i (s ∷ more) j = kept (Conflict s) (omega arith)
-      conflicts e f h i [] j = slots (freeSlots (t .lines)) refl
-        where
-          room : (s : ℕ) (more : List ℕ) → freeSlots (t .lines) ≡ s ∷ more → (b : Bool) → roomFor rule t (placed (t .lines) s g) ≡ b → Outcome t g (if not b then reply NoRoom t else end s)
-          room s more k true q = took s more (record { fit = e; ok = f; grid = h; long = i; clear = j; slot = k; room = q })
-          room s more k false q = kept NoRoom (omega arith)
-
-          slots : (fs : List ℕ) → freeSlots (t .lines) ≡ fs → Outcome t g (by-slot fs)
-          slots [] k = kept NoSlot (omega arith)
-          slots (s ∷ more) k = room s more k (roomFor rule t (placed (t .lines) s g)) refl
-
-      rest : Reply
-      rest = by-conflict (conflicting (t .lines) g)
-
-      same : lengthsFit t ≡ true → sound rule t ≡ true → allOnGrid g ≡ true → (b : Bool) → noLength g ≡ b → Outcome t g (if b then reply NoLength t else rest)
-      same e f h true i = kept NoLength (omega arith)
-      same e f h false i = conflicts e f h i (conflicting (t .lines) g) refl
-
-      grid : lengthsFit t ≡ true → sound rule t ≡ true → (b : Bool) → allOnGrid g ≡ b → Outcome t g (if not b then reply OffGrid t else if noLength g then reply NoLength t else rest)
-      grid e f true h = same e f h (noLength g) refl
-      grid e f false h = kept OffGrid (omega arith)
-
-      damaged : lengthsFit t ≡ true → (b : Bool) → sound rule t ≡ b → Outcome t g (if not b then reply Damaged t else if not (allOnGrid g) then reply OffGrid t else if noLength g then reply NoLength t else rest)
-      damaged e true f = grid e f (allOnGrid g) refl
-      damaged e false f = kept Damaged (omega arith)
-
-      lengths : (b : Bool) → lengthsFit t ≡ b → Outcome t g (if not b then reply Lengths t else if not (sound rule t) then reply Damaged t else if not (allOnGrid g) then reply OffGrid t else if noLength g then reply NoLength t else rest)
-      lengths true e = damaged e (sound rule t) refl
-      lengths false e = kept Lengths (omega arith)
-
-  module _ (t : Tables) (g : Given) (s : ℕ) (more : List ℕ) (p : Passed t g s more) (sd : Sound rule t) (fits : 8 * s + 8 ≤ length (t .lines)) where
+  -- the line in its slot, whether or not its tree has room
+  module _ (t : Tables) (g : Given) (s : ℕ) (grid : allOnGrid g ≡ true) (long : noLength g ≡ false) (clear : conflicting (t .lines) g ≡ []) (sd : Sound rule t) (fits : 8 * s + 8 ≤ length (t .lines)) where
     abbrev new : List ℕ
     new = placed (t .lines) s g
 
@@ -141,18 +115,18 @@ module _ (rule : Rule) (fair : Fair rule) where
 
     given-proper : Proper (givenLine g)
     unfolding givenLine
-    given-proper = unfold noLength in (grid-proper 0 (g .x1) (g .y1) (g .x2) (g .y2) (p .long))
+    given-proper = unfold noLength in (grid-proper 0 (g .x1) (g .y1) (g .x2) (g .y2) long)
 
     old-proper : (y : ℕ) → List·Memᴰ y (liveSlots (t .lines)) → Proper (lineAt (t .lines) y)
     old-proper y m = unfold liveSlots in
         (let n = of-those (isLive (t .lines)) (slotsOf (t .lines)) m in
         live-proper (t .lines) y (every→ (slotSound (t .lines)) (slotsOf (t .lines)) (sd .slots) (n .0)) (n .1))
 
-    clear-of : (y : ℕ) → List·Memᴰ y (liveSlots (t .lines)) → conflict (lineAt (t .lines) y) (givenLine g) ≡ false
+    pub clear-of : (y : ℕ) → List·Memᴰ y (liveSlots (t .lines)) → conflict (lineAt (t .lines) y) (givenLine g) ≡ false
     unfolding conflicting liveSlots
     clear-of y m =
         let n = of-those (isLive (t .lines)) (slotsOf (t .lines)) m in
-        false-by _ (λ k. List·Memᴰ·not-nil (rw (p .clear) at
+        false-by _ (λ k. List·Memᴰ·not-nil (rw clear at
         (in-those (λ u. isLive (t .lines) u && conflict (lineAt (t .lines) u) (givenLine g)) (slotsOf (t .lines)) (n .0) (and-b _ _ (n .1) k))))
 
     -- the slot number plays no part in a conflict
@@ -164,7 +138,7 @@ module _ (rule : Rule) (fair : Fair rule) where
     unfolding conflict within on isEnd parts leftOf rightOf givenLine
     new-first l = rw (new-line (t .lines) g s fits) refl
 
-    apart-placed : noneConflict new ≡ true
+    pub apart-placed : noneConflict new ≡ true
     unfolding noneConflict
     apart-placed = every← _ (liveSlots new) (λ x m. every← _ (liveSlots new) (λ y n. pair x y m n (same-or-not x s) (same-or-not y s)))
       where
@@ -193,7 +167,7 @@ module _ (rule : Rule) (fair : Fair rule) where
       go (kept r k) = sd
       go (took s more p) =
           let f = free-first (t .lines) s more (p .slot) .there in
-          rebuilt-sound t (placed (t .lines) s g) (slots-placed (t .lines) g s f (sd .slots) (p .grid) (p .long)) (apart-placed t g s more p sd f)
+          rebuilt-sound t (placed (t .lines) s g) (slots-placed (t .lines) g s f (sd .slots) (p .grid) (p .long)) (apart-placed t g s (p .grid) (p .long) (p .clear) sd f)
           (unfold roomFor in (leb-true _ _ (and-l (leb (length (nodesOf (tree rule (liveLines (placed (t .lines) s g))))) (length (t .nodes))) (leb (length (listingsOf (tree rule (liveLines (placed (t .lines) s g))))) (length (t .listings))) (p .room))))
           (unfold roomFor in (leb-true _ _ (and-r (leb (length (nodesOf (tree rule (liveLines (placed (t .lines) s g))))) (length (t .nodes))) (leb (length (listingsOf (tree rule (liveLines (placed (t .lines) s g))))) (length (t .listings))) (p .room))))
 

@@ -4,23 +4,24 @@ use Rattle.definitions.specs.declared.Answer.the-variants.{Done, Lengths, Damag
 use Rattle.definitions.specs.declared.Given.{Given}
 use Rattle.algebra.specs.Lists.{in-upFrom, of-those}
 use Rattle.algebra.specs.Tests.{and-r, no-path}
-use Rattle.algebra.specs.Words.{upFrom, if_then_else_}
+use Rattle.algebra.specs.Words.{upFrom}
 use Rattle.definitions.specs.Calls.{Reply, reply, refusalOf, insertOf, deleteOf, rebuilt, placed, freed, allOnGrid, noLength, conflicting, freeSlots, roomFor, known}
 use Rattle.definitions.specs.History.{Call, insert, delete, locate, show, replyTo, afterAll}
-use Rattle.definitions.specs.Tables.{Tables, entry, generation, isLive, slotsOf, lengthsFit, sound}
+use Rattle.definitions.specs.Tables.{Tables, generation, isLive, slotsOf, lengthsFit, sound}
 use Rattle.definitions.specs.Tree.{Rule}
 use Rattle.meaning.specs.Compare.{order}
 use Rattle.meaning.specs.Slots.{same-or-not, in-slot, other-slot, lives-other as live-other, bare-dead as freed-dead}
+use Rattle.history.specs.Cascade.{branch, by-first}
 use Rattle.history.specs.Demand.{givenNow, givenBy, Distinct, Distinct.none, Distinct.one}
 use mathlib.Core.Path.{_≡_, refl, sym, _∙_, subst}
 use mathlib.Core.Logic.{_⊎_, inl, inr}
 use mathlib.Core.Bool.{Bool, true, false, not, _&&_}
 use mathlib.Core.List.{List, [], _∷_, _++_, List·Memᴰ, List·Memᴰ·head, List·Memᴰ·not-nil, List·Memᴰ·eq-of-singleton, List·Memᴰ·append-cases}
-use Prim.Native.Nat.{ℕ, _+_, _*_, _-_, _/_, _%_, _≤_, _<_}
+use Prim.Native.Nat.{ℕ, _+_, _*_, _/_, _%_, _≤_, _<_}
 use native.Mathlib.Omega.{arith}
 use lib.Dec.{ltb, eqb}
 use lib.ListN.{length}
-use borrow.Author.Tests.{ltb-true, eqb-true}
+use borrow.Author.Tests.{ltb-true, eqb-true, not-false}
 
 -- what a free slot is
 pub record Free (lines : List ℕ) (s : ℕ) : Type 0 where
@@ -127,63 +128,18 @@ module _ (rule : Rule) where
 
   pub insert-is : (t : Tables) (g : Given) → Inserted t g (insertOf rule t g)
   unfolding insertOf
-  insert-is t g = lengths (not (lengthsFit t))
+  insert-is t g =
+      branch I (not (lengthsFit t)) (λ e. refused Lengths (omega arith))
+      (λ e. branch I (not (sound rule t)) (λ e. refused Damaged (omega arith))
+      (λ e. branch I (not (allOnGrid g)) (λ e. refused OffGrid (omega arith))
+      (λ e. branch I (noLength g) (λ e. refused NoLength (omega arith))
+      (λ e. by-first I (conflicting (t .lines) g) (λ s more e. refused (Conflict s) (omega arith))
+      (λ e. by-first I (freeSlots (t .lines))
+      (λ s more e. branch I (not (roomFor rule t (placed (t .lines) s g))) (λ f. refused NoRoom (omega arith)) (λ f. taken s more e))
+      (λ e. refused NoSlot (omega arith)))))))
     where
-      room : (s : ℕ) (more : List ℕ) → freeSlots (t .lines) ≡ s ∷ more → (b : Bool)
-          → Inserted t g (if b then reply NoRoom t else reply (Done (s * 65536 + (generation (t .lines) s + 1))) (rebuilt rule t (placed (t .lines) s g)))
-      room s more e true = refused NoRoom (omega arith)
-      room s more e false = taken s more e
-
-      slots : (fs : List ℕ) → freeSlots (t .lines) ≡ fs
-          → Inserted t g (elim fs [
-            | [] ↦ reply NoSlot t
-            | s ∷ more ↦
-                if not (roomFor rule t (placed (t .lines) s g)) then reply NoRoom t else
-                reply (Done (s * 65536 + (generation (t .lines) s + 1))) (rebuilt rule t (placed (t .lines) s g))
-          ])
-      slots [] e = refused NoSlot (omega arith)
-      slots (s ∷ more) e = room s more e (not (roomFor rule t (placed (t .lines) s g)))
-
-      conflicts : (cs : List ℕ) → Inserted t g (elim cs [
-        | s ∷ more ↦ reply (Conflict s) t
-        | [] ↦
-            elim (freeSlots (t .lines)) [
-              | [] ↦ reply NoSlot t
-              | s ∷ more ↦
-                  if not (roomFor rule t (placed (t .lines) s g)) then reply NoRoom t else
-                  reply (Done (s * 65536 + (generation (t .lines) s + 1))) (rebuilt rule t (placed (t .lines) s g))
-            ]
-      ])
-      conflicts (s ∷ more) = refused (Conflict s) (omega arith)
-      conflicts [] = slots (freeSlots (t .lines)) refl
-
-      rest : Reply
-      rest = elim (conflicting (t .lines) g) [
-        | s ∷ more ↦ reply (Conflict s) t
-        | [] ↦
-            elim (freeSlots (t .lines)) [
-              | [] ↦ reply NoSlot t
-              | s ∷ more ↦
-                  if not (roomFor rule t (placed (t .lines) s g)) then reply NoRoom t else
-                  reply (Done (s * 65536 + (generation (t .lines) s + 1))) (rebuilt rule t (placed (t .lines) s g))
-            ]
-      ]
-
-      same : (b : Bool) → Inserted t g (if b then reply NoLength t else rest)
-      same true = refused NoLength (omega arith)
-      same false = conflicts (conflicting (t .lines) g)
-
-      grid : (b : Bool) → Inserted t g (if b then reply OffGrid t else if noLength g then reply NoLength t else rest)
-      grid true = refused OffGrid (omega arith)
-      grid false = same (noLength g)
-
-      damaged : (b : Bool) → Inserted t g (if b then reply Damaged t else if not (allOnGrid g) then reply OffGrid t else if noLength g then reply NoLength t else rest)
-      damaged true = refused Damaged (omega arith)
-      damaged false = grid (not (allOnGrid g))
-
-      lengths : (b : Bool) → Inserted t g (if b then reply Lengths t else if not (sound rule t) then reply Damaged t else if not (allOnGrid g) then reply OffGrid t else if noLength g then reply NoLength t else rest)
-      lengths true = refused Lengths (omega arith)
-      lengths false = damaged (not (sound rule t))
+      I : Reply → Type 0
+      I = Inserted t g
 
   -- Demand 1 for insert: a refusal changes no entry
   pub insert-refused : (t : Tables) (g : Given) → 0 < refusalOf (insertOf rule t g .answer) → insertOf rule t g .after ≡ t
@@ -200,22 +156,13 @@ module _ (rule : Rule) where
 
   pub delete-is : (t : Tables) (h : ℕ) → Deleted t h (deleteOf rule t h)
   unfolding deleteOf
-  delete-is t h = lengths (not (lengthsFit t))
+  delete-is t h =
+      branch D (not (lengthsFit t)) (λ e. refused Lengths (omega arith))
+      (λ e. branch D (not (sound rule t)) (λ e. refused Damaged (omega arith))
+      (λ e. branch D (not (known (t .lines) h)) (λ e. refused UnknownHandle (omega arith)) (λ e. removed (not-false (known (t .lines) h) e))))
     where
-      freeing : Reply
-      freeing = reply (Done 0) (rebuilt rule t (freed (t .lines) (h / 65536)))
-
-      unknown : (b : Bool) → known (t .lines) h ≡ b → Deleted t h (if not b then reply UnknownHandle t else freeing)
-      unknown true e = removed e
-      unknown false e = refused UnknownHandle (omega arith)
-
-      damaged : (b : Bool) → Deleted t h (if b then reply Damaged t else if not (known (t .lines) h) then reply UnknownHandle t else freeing)
-      damaged true = refused Damaged (omega arith)
-      damaged false = unknown (known (t .lines) h) refl
-
-      lengths : (b : Bool) → Deleted t h (if b then reply Lengths t else if not (sound rule t) then reply Damaged t else if not (known (t .lines) h) then reply UnknownHandle t else freeing)
-      lengths true = refused Lengths (omega arith)
-      lengths false = damaged (not (sound rule t))
+      D : Reply → Type 0
+      D = Deleted t h
 
   step-insert : (t : Tables) (g : Given) {r : Reply} → Inserted t g r → Step t r (givenNow (insert g) (r .answer))
   unfolding rebuilt

@@ -9,3 +9,9 @@ pub mod Remains
 pub mod Sizes
 pub mod Answers
 pub mod Holds
+pub mod Refusals
+pub mod Cascade
+pub mod Conditions
+pub mod Exact
+pub mod Unique
+pub mod Room

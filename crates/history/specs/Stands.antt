@@ -10,7 +10,7 @@ use Rattle.definitions.specs.Tables.{Tables}
 use Rattle.definitions.specs.Tree.{Rule}
 use Rattle.history.specs.Demand.{Held, Heard, heard, liveHeld, Gave, Took, NeverTook, Stands, now, after}
 use Rattle.history.specs.Held.{heldAfter, heldBy, live-exact}
-use mathlib.Core.Path.{_≡_, refl, sym, _∙_, ap}
+use mathlib.Core.Path.{subst, _≡_, refl, sym, _∙_, ap}
 use mathlib.Core.Logic.{_⊎_, inl, inr, _↔_}
 use mathlib.Core.Bool.{Bool, true, false, not}
 use mathlib.Core.List.{List, [], _∷_, List·Memᴰ, List·Memᴰ·head, List·Memᴰ·tail, List·Memᴰ·not-nil, List·Memᴰ·cases-cons}
@@ -76,7 +76,7 @@ one→ held (delete h) r i m = go (eqb (refusalOf r) 0) refl m
     go true e m =
         let n = of-those (λ i. not (eqb (i .handle) h)) held m in
         inl (n .0, λ t. eqb-false (i .handle) h (not-true _ (n .1)) (sym (same-handle h (i .handle) (t .0))))
-    go false e m = inl (m, λ t. eqb-false (refusalOf r) 0 e (t .1))
+    go false e m = inl (m, λ t. eqb-false (refusalOf r) 0 e (omega (arith, t .1)))
 one→ held (locate ps as′) r i m = inl (m, λ t. looked ps as′ (i .handle) (t .0))
 one→ held (show x y) r i m = inl (m, λ t. showed x y (i .handle) (t .0))
 
@@ -95,7 +95,7 @@ one← held (insert g) r i (inr (e, f)) =
 one← held (delete h) r i (inl (m, f)) = go (eqb (refusalOf r) 0) refl
   where
     go : (b : Bool) → eqb (refusalOf r) 0 ≡ b → List·Memᴰ i (if b then those (λ i. not (eqb (i .handle) h)) held else held)
-    go true e = in-those (λ i. not (eqb (i .handle) h)) held m (ap not (ne-eqb (i .handle) h (λ q. f (ap delete (sym q), eqb-true _ _ e))))
+    go true e = in-those (λ i. not (eqb (i .handle) h)) held m (ap not (ne-eqb (i .handle) h (λ q. f (ap delete (sym q), omega (arith, eqb-true (refusalOf r) 0 e)))))
     go false e = m
 one← held (delete h) r i (inr (e, f)) = absurd (not-both (i .line) h (sym e))
 one← held (locate ps as′) r i (inl (m, f)) = m
@@ -117,7 +117,7 @@ held→ (c ∷ log) held i m = go (held→ log (heldAfter held (c .call) (c .ans
         step (inl (p, q)) = inl (p, λ d k t. each d (List·Memᴰ·cases-cons k) t)
           where
             each : (d : Heard) → (d ≡ c) ⊎ List·Memᴰ d log → Took d (i .handle) → ⊥
-            each d (inl e) t = q (ap (λ (x : Heard). x .call) (sym e) ∙ t .0, ap (λ (x : Heard). refusalOf (x .answer)) (sym e) ∙ t .1)
+            each d (inl e) t = q (subst (λ (x : Heard). Took x (i .handle)) e t)
             each d (inr k) t = f d k t
 
 held← : (log : List Heard) (held : List Held) (i : Held) → (List·Memᴰ i held × NeverTook log (i .handle)) ⊎ Stands i log → List·Memᴰ i (heldBy held log)

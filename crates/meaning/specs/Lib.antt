@@ -27,3 +27,5 @@ pub mod Column
 pub mod Walk
 pub mod Locate
 pub mod Plain
+pub mod Chain
+pub mod SoundMeans

@@ -1,0 +1,199 @@
+-- The calls answer by the refusal table, and a refusal leaves all as it was.
+use mathlib.Core.Path.{_≡_, refl, _∙_, ap, subst}
+use mathlib.Core.Logic.{_⊎_, inl, inr, _↔_}
+use mathlib.Core.Bool.{true, not, _&&_}
+use mathlib.Core.List.{List, [], _∷_}
+use Prim.Native.Nat.{ℕ, _+_, _*_, _/_, _≤_, _<_}
+use native.Mathlib.Omega.{arith}
+use lib.Dec.{eqb}
+use lib.ListN.{length}
+use Rattle.algebra.specs.Tests.{false-by}
+use Rattle.definitions.specs.declared.Answer.{Answer}
+use Rattle.definitions.specs.declared.Answer.the-variants.{Done, Lengths, Damaged, OffGrid, NoLength, Conflict, NoSlot, NoRoom, UnknownHandle}
+use Rattle.definitions.specs.declared.Given.{Given}
+use Rattle.definitions.specs.Calls.{Reply, reply, cleared, startOf, givenLine, allOnGrid, noLength, conflicting, freeSlots, placed, known, freed, rebuilt, roomFor, insertOf, deleteOf}
+use Rattle.definitions.specs.Lookup.{Located, Showing, answersTo, notShown, shownAt, leafOver, locateOf, showOf}
+use Rattle.definitions.specs.Meaning.{Live}
+use Rattle.definitions.specs.Shape.{conflict}
+use Rattle.definitions.specs.Tables.{Tables, lengthsFit, generation, isLive, slotsOf, lineAt, liveLines, onGrid, sound}
+use Rattle.definitions.specs.Tree.{Rule}
+use Rattle.meaning.specs.Chain.{stable}
+use Rattle.meaning.specs.Crossing.{Proper}
+use Rattle.meaning.specs.Sound.{sound→, grid-proper}
+use Rattle.meaning.specs.SoundMeans.{sound-means, live-is-proper}
+use Rattle.history.specs.Cascade.{tested, gives, by-first, Came, kept, made, plain, detailed, done-0, alone}
+use Rattle.history.specs.Refusals.{None, Some, Retired, Lowest, WrongLengths, Unsound, EndsEqual, InTheWay, AllTaken, Vacant, NeedsMore, TooLarge, Handle, Nothing, StartExact, InsertExact, DeleteExact, LocateExact, ShowExact, insertTests, deleteTests, locateTests, showTests}
+use Rattle.history.specs.Conditions.{lengths-mean, wrong-means, unsound-means, above-means, place-means, ends-mean, lowest-first, none-passes, lowest-only, way-means, vacant-means, taken-means, not-taken, room-means, unknown-means, lists-mean}
+
+-- ---- The calls
+
+module _ (t : Tables) where
+  abbrev Started : Reply → Type 0
+  Started = Came (λ (r : Reply). r .answer) (λ (r : Reply). r .after ≡ t) (λ (r : Reply). r .after ≡ cleared t) (1 ∷ []) (WrongLengths t ∷ []) (λ d. d ≡ 0) (λ s. ⊥)
+
+  came-start : Started (startOf t)
+  unfolding startOf
+  came-start =
+      tested Started (lengthsFit t) (lengths-mean t)
+      (λ f. gives (reply (Done 0) (cleared t)) (tt, (λ w. w f, tt)) (refl, refl))
+      (λ w. gives (reply Lengths t) (w, tt) refl)
+
+  pub start-exact : StartExact t
+  start-exact = record { lengths = alone (plain came-start Lengths (λ d. refl)); done = done-0 came-start (λ d e. e) tt; all0 = made came-start; kept = kept came-start }
+
+module _ (rule : Rule) (t : Tables) (h : ℕ) where
+  abbrev Deleted : Reply → Type 0
+  Deleted = Came (λ (r : Reply). r .answer) (λ (r : Reply). r .after ≡ t) (λ (r : Reply). r .after ≡ rebuilt rule t (freed (t .lines) (h / 65536))) (1 ∷ 2 ∷ 8 ∷ []) (deleteTests rule t h) (λ d. d ≡ 0) (λ s. ⊥)
+
+  came-delete : Deleted (deleteOf rule t h)
+  unfolding deleteOf
+  came-delete =
+      tested Deleted (not (lengthsFit t)) (wrong-means t) (λ c. gives (reply Lengths t) (c, tt) refl)
+      (λ n1. tested Deleted (not (sound rule t)) (unsound-means rule t) (λ c. gives (reply Damaged t) (c, (n1, tt)) refl)
+      (λ n2. tested Deleted (not (known (t .lines) h)) (unknown-means (t .lines) h) (λ c. gives (reply UnknownHandle t) (c, (n1, (n2, tt))) refl)
+      (λ n3. gives (reply (Done 0) (rebuilt rule t (freed (t .lines) (h / 65536)))) (tt, (n1, (n2, (n3, tt)))) (refl, refl))))
+
+  pub delete-exact : DeleteExact rule t h
+  delete-exact =
+      record {
+        lengths = alone (plain came-delete Lengths (λ d. refl));
+        damaged = plain came-delete Damaged (λ d. refl);
+        unknown = plain came-delete UnknownHandle (λ d. refl);
+        done = done-0 came-delete (λ d e. e) tt;
+        emptied = made came-delete;
+        kept = kept came-delete;
+      }
+
+module _ (rule : Rule) (t : Tables) (points answers : List ℕ) where
+  abbrev Answered : Located → Type 0
+  Answered = Came (λ (r : Located). r .answer) (λ (r : Located). r .answers ≡ answers) (λ (r : Located). r .answers ≡ answersTo (t .lines) points) (1 ∷ 2 ∷ []) (locateTests rule t points answers) (λ d. d ≡ 0) (λ s. ⊥)
+
+  abbrev located : Answer → List ℕ → Located
+  located r after = record { answer = r; answers = after }
+
+  came-locate : Answered (locateOf rule t points answers)
+  unfolding locateOf
+  came-locate =
+      tested Answered (not (lengthsFit t && eqb (length points) (2 * length answers))) (lists-mean t points answers) (λ c. gives (located Lengths answers) (c, tt) refl)
+      (λ n1. tested Answered (not (sound rule t)) (unsound-means rule t) (λ c. gives (located Damaged answers) (c, (n1, tt)) refl)
+      (λ n2. gives (located (Done 0) (answersTo (t .lines) points)) (tt, (n1, (n2, tt))) (refl, refl)))
+
+  pub locate-exact : LocateExact rule t points answers
+  locate-exact =
+      record {
+        lengths = alone (plain came-locate Lengths (λ d. refl));
+        damaged = plain came-locate Damaged (λ d. refl);
+        done = done-0 came-locate (λ d e. e) tt;
+        answered = made came-locate;
+        kept = kept came-locate;
+      }
+
+module _ (rule : Rule) (t : Tables) (x y : ℕ) where
+  abbrev Showed : Showing → Type 0
+  Showed = Came (λ (r : Showing). r .told .answer) Nothing (λ (r : Showing). r ≡ shownAt (leafOver rule t x y) (t .listings)) (1 ∷ 2 ∷ 3 ∷ []) (showTests rule t x y) (λ d. d ≡ 0) (λ s. ⊥)
+
+  nothing : (r : Answer) → Nothing (notShown r)
+  nothing r = record { side = refl; west = refl; south = refl; part = refl }
+
+  came-show : Showed (showOf rule t x y)
+  unfolding showOf
+  came-show =
+      tested Showed (not (lengthsFit t)) (wrong-means t) (λ c. gives (notShown Lengths) (c, tt) (nothing Lengths))
+      (λ n1. tested Showed (not (sound rule t)) (unsound-means rule t) (λ c. gives (notShown Damaged) (c, (n1, tt)) (nothing Damaged))
+      (λ n2. tested Showed (not (onGrid x && onGrid y)) (place-means x y) (λ c. gives (notShown OffGrid) (c, (n1, (n2, tt))) (nothing OffGrid))
+      (λ n3. gives (shownAt (leafOver rule t x y) (t .listings)) (tt, (n1, (n2, (n3, tt)))) (refl, refl))))
+
+  pub show-exact : ShowExact rule t x y
+  show-exact =
+      record {
+        lengths = alone (plain came-show Lengths (λ d. refl));
+        damaged = plain came-show Damaged (λ d. refl);
+        offGrid = plain came-show OffGrid (λ d. refl);
+        done = done-0 came-show (λ d e. e) tt;
+        leaf = made came-show;
+        nothing = kept came-show;
+      }
+
+module _ (rule : Rule) (t : Tables) (g : Given) where
+  abbrev Inserted : Reply → Type 0
+  Inserted = Came (λ (r : Reply). r .answer) (λ (r : Reply). r .after ≡ t) (λ (r : Reply). Some (λ s. Lowest (Vacant (t .lines)) s × (r .after ≡ rebuilt rule t (placed (t .lines) s g)))) (1 ∷ 2 ∷ 3 ∷ 4 ∷ 5 ∷ 6 ∷ 7 ∷ []) (insertTests rule t g) (Handle rule t g) (Lowest (InTheWay (t .lines) g))
+
+  given-proper : ¬ EndsEqual g → Proper (givenLine g)
+  unfolding givenLine noLength
+  given-proper n = grid-proper 0 (g .x1) (g .y1) (g .x2) (g .y2) (false-by (noLength g) (λ e. n (ends-mean g .0 e)))
+
+  module _ (n2 : ¬ Unsound rule t) (n4 : ¬ EndsEqual g) where
+    way-is : (u : ℕ) → ((u < length (t .lines) / 8) × (isLive (t .lines) u && conflict (lineAt (t .lines) u) (givenLine g) ≡ true)) ↔ InTheWay (t .lines) g u
+    way-is = way-means (t .lines) g (live-is-proper (t .lines) (sound→ rule t (sound-means rule t .1 (stable (sound rule t) (sound-means rule t) n2)) .slots)) (given-proper n4)
+
+    pub first-way : (s : ℕ) (more : List ℕ) → conflicting (t .lines) g ≡ s ∷ more → Lowest (InTheWay (t .lines) g) s
+    unfolding conflicting slotsOf
+    first-way s more e = lowest-first _ _ way-is e
+
+    pub no-way : conflicting (t .lines) g ≡ [] → ¬ Some (InTheWay (t .lines) g)
+    unfolding conflicting slotsOf
+    no-way e = none-passes _ _ way-is e
+
+  pub first-free : (s : ℕ) (more : List ℕ) → freeSlots (t .lines) ≡ s ∷ more → Lowest (Vacant (t .lines)) s
+  unfolding freeSlots slotsOf
+  first-free s more e = lowest-first _ _ (vacant-means (t .lines)) e
+
+  pub no-free : freeSlots (t .lines) ≡ [] → AllTaken (t .lines)
+  unfolding freeSlots slotsOf
+  no-free e = taken-means (t .lines) (none-passes _ _ (vacant-means (t .lines)) e)
+
+  roomy : (s : ℕ) → Lowest (Vacant (t .lines)) s → ¬ NeedsMore rule t (liveLines (placed (t .lines) s g)) → ¬ TooLarge rule t g
+  roomy s low n l = n (subst (λ (u : ℕ). NeedsMore rule t (liveLines (placed (t .lines) u g))) (lowest-only _ _ (l .takes) low) (l .more))
+
+  handle-only : (h k : ℕ) → Handle rule t g h → Handle rule t g k → h ≡ k
+  handle-only h k a b = let e : a .0 ≡ b .0 = lowest-only _ _ (a .1) (b .1) in cc (a .2, b .2)
+
+  came-insert : Inserted (insertOf rule t g)
+  unfolding insertOf
+  came-insert =
+      tested Inserted (not (lengthsFit t)) (wrong-means t) (λ c. gives (reply Lengths t) (c, tt) refl)
+      (λ n1. tested Inserted (not (sound rule t)) (unsound-means rule t) (λ c. gives (reply Damaged t) (c, (n1, tt)) refl)
+      (λ n2. tested Inserted (not (allOnGrid g)) (above-means g) (λ c. gives (reply OffGrid t) (c, (n1, (n2, tt))) refl)
+      (λ n3. tested Inserted (noLength g) (ends-mean g) (λ c. gives (reply NoLength t) (c, (n1, (n2, (n3, tt)))) refl)
+      (λ n4. by-first Inserted (conflicting (t .lines) g)
+      (λ s more e. let low = first-way n2 n4 s more e in gives (reply (Conflict s) t) ((s, low .holds), (n1, (n2, (n3, (n4, tt))))) (low, refl))
+      (λ e. let n5 = no-way n2 n4 e in by-first Inserted (freeSlots (t .lines))
+      (λ s more f. let low = first-free s more f in let n6 = not-taken (t .lines) (low .holds) in
+      tested Inserted (not (roomFor rule t (placed (t .lines) s g))) (room-means rule t (placed (t .lines) s g))
+      (λ c. gives (reply NoRoom t) (record { slot = s; takes = low; more = c }, (n1, (n2, (n3, (n4, (n5, (n6, tt))))))) refl)
+      (λ n. gives (reply (Done (s * 65536 + (generation (t .lines) s + 1))) (rebuilt rule t (placed (t .lines) s g))) (tt, (n1, (n2, (n3, (n4, (n5, (n6, (roomy s low n, tt)))))))) ((s, low, refl), (s, (low, refl)))))
+      (λ f. gives (reply NoSlot t) (no-free f, (n1, (n2, (n3, (n4, (n5, tt)))))) refl))))))
+
+  put : (h s : ℕ) → insertOf rule t g .answer ≡ Done h → Lowest (Vacant (t .lines)) s → insertOf rule t g .after ≡ rebuilt rule t (placed (t .lines) s g)
+  put h s e low = let m = made came-insert h e in m .1 .1 ∙ ap (λ (u : ℕ). rebuilt rule t (placed (t .lines) u g)) (lowest-only _ _ (m .1 .0) low)
+
+  pub insert-exact : InsertExact rule t g
+  insert-exact =
+      record {
+        lengths = alone (plain came-insert Lengths (λ d. refl));
+        damaged = plain came-insert Damaged (λ d. refl);
+        offGrid = plain came-insert OffGrid (λ d. refl);
+        noLength = plain came-insert NoLength (λ d. refl);
+        conflict = detailed came-insert Conflict 5 (Lowest (InTheWay (t .lines) g)) (λ d. refl) (λ d. refl) (λ d a. a .0) lowest-only (λ d low. (d, low .holds));
+        noSlot = plain came-insert NoSlot (λ d. refl);
+        noRoom = plain came-insert NoRoom (λ d. refl);
+        done = detailed came-insert Done 0 (Handle rule t g) (λ d. refl) (λ d. refl) (λ d a. a .0) handle-only (λ d a. tt);
+        put = put;
+        kept = kept came-insert;
+      }
+
+  -- where entries have 16 bits, a retired slot is one of generation 65,535
+  pub no-slot-16 : ((s : ℕ) → generation (t .lines) s ≤ 65535)
+      → (insertOf rule t g .answer ≡ NoSlot) ↔ ((s : ℕ) → s < length (t .lines) / 8 → Live (t .lines) s ⊎ (generation (t .lines) s ≡ 65535)) × None 5 (insertTests rule t g)
+  no-slot-16 small = (
+    λ e. let h = insert-exact .noSlot .0 e in (λ s k. last s (h .0 s k), h .1),
+    λ h. insert-exact .noSlot .1 (λ s k. retired s (h .0 s k), h .1),
+  )
+    where
+      last : (s : ℕ) → Live (t .lines) s ⊎ Retired (t .lines) s → Live (t .lines) s ⊎ (generation (t .lines) s ≡ 65535)
+      last s (inl v) = inl v
+      last s (inr r) = inr (omega (arith, small s))
+
+      retired : (s : ℕ) → Live (t .lines) s ⊎ (generation (t .lines) s ≡ 65535) → Live (t .lines) s ⊎ Retired (t .lines) s
+      retired s (inl v) = inl v
+      retired s (inr e) = inr (omega arith)

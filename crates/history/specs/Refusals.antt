@@ -1,0 +1,184 @@
+-- The refusal table, call by call: an answer is given exactly if its condition holds and that of no earlier test. `Exact` has the proofs.
+use mathlib.Core.Path.{_≡_}
+use mathlib.Core.Logic.{_⊎_, _↔_}
+use mathlib.Core.List.{List, [], _∷_}
+use Prim.Native.Nat.{ℕ, zero, suc, _+_, _*_, _/_, _%_, _≤_, _<_}
+use lib.ListN.{length}
+use Rattle.definitions.specs.declared.Answer.{Answer}
+use Rattle.definitions.specs.declared.Answer.the-variants.{Done, Lengths, Damaged, OffGrid, NoLength, Conflict, NoSlot, NoRoom, UnknownHandle}
+use Rattle.definitions.specs.declared.Given.{Given}
+use Rattle.definitions.specs.Shape.{Line}
+use Rattle.definitions.specs.Tree.{Rule, tree, nodesOf, listingsOf}
+use Rattle.definitions.specs.Tables.{Tables, live, generation, lineAt, liveLines}
+use Rattle.definitions.specs.Calls.{refusalOf, cleared, startOf, insertOf, deleteOf, givenLine, placed, freed, rebuilt}
+use Rattle.definitions.specs.Lookup.{Showing, answersTo, shownAt, leafOver, locateOf, showOf}
+use Rattle.definitions.specs.Meaning.{Live, Conflicts, SoundMap}
+
+-- none of the first n tests applies
+abbrev pub None : ℕ → List (Type 0) → Type 0
+None zero tests = Unit {0}
+None (suc n) [] = Unit {0}
+None (suc n) (c ∷ more) = (¬ c) × None n more
+
+abbrev pub Some : (ℕ → Type 0) → Type 0
+Some P = (s : ℕ) × P s
+
+pub record Lowest (P : ℕ → Type 0) (s : ℕ) : Type 0 where
+  pub holds : P s
+  pub least : (u : ℕ) → P u → s ≤ u
+
+-- ---- 1 Lengths
+
+-- S slots of 8 entries, S from 1 to 1,024; node table 1 to 16,384; listing table 0 to 16,384
+pub record FitLengths (t : Tables) : Type 0 where
+  pub lines : Some (λ S. (length (t .lines) ≡ 8 * S) × (1 ≤ S) × (S ≤ 1024))
+  pub nodes : (1 ≤ length (t .nodes)) × (length (t .nodes) ≤ 16384)
+  pub listings : length (t .listings) ≤ 16384
+
+abbrev pub WrongLengths : Tables → Type 0
+WrongLengths t = ¬ FitLengths t
+
+-- locate: a table's length, the point list is odd, or the answer list is not half of it
+pub data WrongLists (t : Tables) (points answers : List ℕ) : Type 0 where
+  tables : WrongLengths t → WrongLists t points answers
+  odd : length points % 2 ≡ 1 → WrongLists t points answers
+  notHalf : ¬ (length answers ≡ length points / 2) → WrongLists t points answers
+
+-- ---- 2 Damaged
+abbrev pub Unsound : Rule → Tables → Type 0
+Unsound rule t = ¬ SoundMap rule t
+
+-- ---- 3 Off grid
+abbrev pub AboveGrid : Given → Type 0
+AboveGrid g = (16383 < g .x1) ⊎ (16383 < g .y1) ⊎ (16383 < g .x2) ⊎ (16383 < g .y2)
+
+-- ---- 4 No length
+abbrev pub EndsEqual : Given → Type 0
+EndsEqual g = (g .x1 ≡ g .x2) × (g .y1 ≡ g .y2)
+
+-- ---- 5 Conflict: the slot's line is live and conflicts with the given one
+pub record InTheWay (lines : List ℕ) (g : Given) (s : ℕ) : Type 0 where
+  pub lives : Live lines s
+  pub conflicts : Conflicts (lineAt lines s) (givenLine g)
+
+-- ---- 6 No slot
+
+-- no generation is left; an entry has 16 bits, so it is 65,535 (`no-slot-16`)
+abbrev pub Retired : List ℕ → ℕ → Type 0
+Retired lines s = 65535 ≤ generation lines s
+
+abbrev pub AllTaken : List ℕ → Type 0
+AllTaken lines = (s : ℕ) → s < length lines / 8 → Live lines s ⊎ Retired lines s
+
+-- a slot that is not live and has generation below 65,535
+pub record Vacant (lines : List ℕ) (s : ℕ) : Type 0 where
+  pub there : s < length lines / 8
+  pub dead : ¬ Live lines s
+  pub young : generation lines s < 65535
+
+-- ---- 7 No room
+
+-- the tree of these lines needs more node or listing entries than lent
+abbrev pub NeedsMore : Rule → Tables → List Line → Type 0
+NeedsMore rule t ls = (length (t .nodes) < length (nodesOf (tree rule ls))) ⊎ (length (t .listings) < length (listingsOf (tree rule ls)))
+
+-- the live lines and the new one, in the slot that it would take; over a fair rule the slot plays no part (`no-room-exact`)
+pub record TooLarge (rule : Rule) (t : Tables) (g : Given) : Type 0 where
+  pub slot : ℕ
+  pub takes : Lowest (Vacant (t .lines)) slot
+  pub more : NeedsMore rule t (liveLines (placed (t .lines) slot g))
+
+-- ---- 8 Unknown handle
+pub data Unknown (lines : List ℕ) (h : ℕ) : Type 0 where
+  beyond : length lines / 8 ≤ h / 65536 → Unknown lines h
+  notLive : ¬ (live lines (h / 65536) ≡ 1) → Unknown lines h
+  otherGeneration : ¬ (generation lines (h / 65536) ≡ h % 65536) → Unknown lines h
+
+-- ---- The calls
+
+module _ (t : Tables) where
+  abbrev pub started : Answer
+  started = startOf t .answer
+
+  pub record StartExact : Type 0 where
+    pub lengths : (started ≡ Lengths) ↔ WrongLengths t
+    pub done : (d : ℕ) → (started ≡ Done d) ↔ (d ≡ 0) × None 1 (WrongLengths t ∷ [])
+    -- all tables are 0
+    pub all0 : (d : ℕ) → started ≡ Done d → startOf t .after ≡ cleared t
+    pub kept : 0 < refusalOf started → startOf t .after ≡ t
+
+module _ (rule : Rule) (t : Tables) (g : Given) where
+  abbrev pub insertTests : List (Type 0)
+  insertTests = WrongLengths t ∷ Unsound rule t ∷ AboveGrid g ∷ EndsEqual g ∷ Some (InTheWay (t .lines) g) ∷ AllTaken (t .lines) ∷ TooLarge rule t g ∷ []
+
+  abbrev pub inserted : Answer
+  inserted = insertOf rule t g .answer
+
+  -- slot × 65,536 + generation, raised by 1, of the lowest slot that is not live and has generation below 65,535
+  abbrev pub Handle : ℕ → Type 0
+  Handle h = (s : ℕ) × Lowest (Vacant (t .lines)) s × (h ≡ s * 65536 + (generation (t .lines) s + 1))
+
+  pub record InsertExact : Type 0 where
+    pub lengths : (inserted ≡ Lengths) ↔ WrongLengths t
+    pub damaged : (inserted ≡ Damaged) ↔ Unsound rule t × None 1 insertTests
+    pub offGrid : (inserted ≡ OffGrid) ↔ AboveGrid g × None 2 insertTests
+    pub noLength : (inserted ≡ NoLength) ↔ EndsEqual g × None 3 insertTests
+    pub conflict : (s : ℕ) → (inserted ≡ Conflict s) ↔ Lowest (InTheWay (t .lines) g) s × None 4 insertTests
+    pub noSlot : (inserted ≡ NoSlot) ↔ AllTaken (t .lines) × None 5 insertTests
+    pub noRoom : (inserted ≡ NoRoom) ↔ TooLarge rule t g × None 6 insertTests
+    pub done : (h : ℕ) → (inserted ≡ Done h) ↔ Handle h × None 7 insertTests
+    -- the line stands in its slot, and the tree tables are those of the live lines
+    pub put : (h s : ℕ) → inserted ≡ Done h → Lowest (Vacant (t .lines)) s → insertOf rule t g .after ≡ rebuilt rule t (placed (t .lines) s g)
+    pub kept : 0 < refusalOf inserted → insertOf rule t g .after ≡ t
+
+module _ (rule : Rule) (t : Tables) (h : ℕ) where
+  abbrev pub deleteTests : List (Type 0)
+  deleteTests = WrongLengths t ∷ Unsound rule t ∷ Unknown (t .lines) h ∷ []
+
+  abbrev pub deleted : Answer
+  deleted = deleteOf rule t h .answer
+
+  pub record DeleteExact : Type 0 where
+    pub lengths : (deleted ≡ Lengths) ↔ WrongLengths t
+    pub damaged : (deleted ≡ Damaged) ↔ Unsound rule t × None 1 deleteTests
+    pub unknown : (deleted ≡ UnknownHandle) ↔ Unknown (t .lines) h × None 2 deleteTests
+    pub done : (d : ℕ) → (deleted ≡ Done d) ↔ (d ≡ 0) × None 3 deleteTests
+    -- the slot is emptied, and the tree tables are those of the live lines
+    pub emptied : (d : ℕ) → deleted ≡ Done d → deleteOf rule t h .after ≡ rebuilt rule t (freed (t .lines) (h / 65536))
+    pub kept : 0 < refusalOf deleted → deleteOf rule t h .after ≡ t
+
+module _ (rule : Rule) (t : Tables) (points answers : List ℕ) where
+  abbrev pub locateTests : List (Type 0)
+  locateTests = WrongLists t points answers ∷ Unsound rule t ∷ []
+
+  abbrev pub located : Answer
+  located = locateOf rule t points answers .answer
+
+  pub record LocateExact : Type 0 where
+    pub lengths : (located ≡ Lengths) ↔ WrongLists t points answers
+    pub damaged : (located ≡ Damaged) ↔ Unsound rule t × None 1 locateTests
+    pub done : (d : ℕ) → (located ≡ Done d) ↔ (d ≡ 0) × None 2 locateTests
+    pub answered : (d : ℕ) → located ≡ Done d → locateOf rule t points answers .answers ≡ answersTo (t .lines) points
+    pub kept : 0 < refusalOf located → locateOf rule t points answers .answers ≡ answers
+
+-- the side and corner are 0, and the part has length 0
+pub record Nothing (r : Showing) : Type 0 where
+  pub side : r .told .side ≡ 0
+  pub west : r .told .west .0 ≡ 0
+  pub south : r .told .south .0 ≡ 0
+  pub part : r .part ≡ []
+
+module _ (rule : Rule) (t : Tables) (x y : ℕ) where
+  abbrev pub showTests : List (Type 0)
+  showTests = WrongLengths t ∷ Unsound rule t ∷ ((16383 < x) ⊎ (16383 < y)) ∷ []
+
+  abbrev pub shown : Answer
+  shown = showOf rule t x y .told .answer
+
+  pub record ShowExact : Type 0 where
+    pub lengths : (shown ≡ Lengths) ↔ WrongLengths t
+    pub damaged : (shown ≡ Damaged) ↔ Unsound rule t × None 1 showTests
+    pub offGrid : (shown ≡ OffGrid) ↔ ((16383 < x) ⊎ (16383 < y)) × None 2 showTests
+    pub done : (d : ℕ) → (shown ≡ Done d) ↔ (d ≡ 0) × None 3 showTests
+    pub leaf : (d : ℕ) → shown ≡ Done d → showOf rule t x y ≡ shownAt (leafOver rule t x y) (t .listings)
+    pub nothing : 0 < refusalOf shown → Nothing (showOf rule t x y)
