@@ -19,4 +19,5 @@ pub started : (l n s : List ℕ) {l′ n′ s′ : List ℕ} → lengthsFit (tab
     → Replies (Done 0) l′ n′ s′ (startOf (tables l n s))
 unfolding cleared
 started l n s fit p q u = three (Done 0) p q u ∙ sym (start-0 (tables l n s) fit)
--- 
+
+--

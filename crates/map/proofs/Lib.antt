@@ -3,3 +3,4 @@ pub mod Compared
 pub mod Puts
 pub mod Inserts
 pub mod Shows
+pub mod Locates

@@ -56,8 +56,7 @@ module _ {lines nodes listings : List ℕ} (w : Passed lines nodes listings) whe
     unfolding leafOver
     found {f} h =
         let u = h ours stands in
-        let s = fits-listings baseRule (tables lines nodes listings) (sound→ baseRule (tables lines nodes listings) (w .ok)) in
-        (
+        let s = fits-listings baseRule (tables lines nodes listings) (sound→ baseRule (tables lines nodes listings) (w .ok)) in (
           show-0 baseRule (tables lines nodes listings) x y (w .fit) (w .ok) g ∙ ap (λ l. shownAt l listings) (sym (u .leaf-is)),
           omega (arith, u .within, s),
         )

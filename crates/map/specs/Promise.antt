@@ -10,7 +10,7 @@ use Rattle.definitions.specs.declared.Given.{Given}
 use Rattle.definitions.specs.Tables.{Tables, lengthsFit, sound, slotSound, slotsOf, isLive}
 use Rattle.definitions.specs.Tree.{baseRule}
 use Rattle.definitions.specs.Calls.{Reply, rebuilt, roomFor, allOnGrid, noLength, conflicting, freeSlots, withSlot}
-use Rattle.definitions.specs.Lookup.{notShown, shownAt, showOf}
+use Rattle.definitions.specs.Lookup.{Located, notShown, shownAt, showOf}
 use Rattle.tables.specs.declared.Row.{Row}
 use Rattle.tables.specs.declared.Slot.the-variants.{At}
 use Rattle.tables.specs.Rows.{entriesOf}
@@ -25,6 +25,10 @@ tables lines nodes listings = record { lines = lines; nodes = nodes; listings = 
 -- the answer and every entry of the three tables afterwards are the reply's
 abbrev pub Replies : Answer → List ℕ → List ℕ → List ℕ → Reply → Type 0
 Replies r lines nodes listings y = (record { answer = r; after = tables lines nodes listings }) ≡ y
+
+-- the answer and every entry of the answer list afterwards are those of locate
+abbrev pub Locates : Answer → List ℕ → Located → Type 0
+Locates r answers y = (record { answer = r; answers = answers }) ≡ y
 
 -- lengths that fit, and slots that are sound
 pub record Slotted (lines nodes listings : List ℕ) : Type 0 where

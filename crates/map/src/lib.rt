@@ -6,6 +6,7 @@ use definitions::Shown;
 use geometry::on_grid;
 use geometry::point_of;
 use leaves::conflicts_in_leaves;
+use lookup::answer_all;
 use tables::Row;
 use tables::Slot;
 use tables::all_on_grid;
@@ -39,10 +40,16 @@ ghost use Rattle.definitions.specs.Calls.{withSlot, rebuilt, freed, startOf, in
 ghost use Rattle.tables.specs.Rows.{entriesOf};
 ghost use Rattle.definitions.specs.Lookup.{locateOf, showOf};
 ghost use Rattle.walk.specs.Index.{Standing, Walkable, LeafOver};
-ghost use Rattle.map.specs.Promise.{tables, Replies, Slotted, Comparing, Passed, Room, Putting, Put, Placing, Taking, AskedIs};
+ghost use Rattle.map.specs.Promise.{tables, Replies, Locates, Slotted, Comparing, Passed, Room, Putting, Put, Placing, Taking, AskedIs};
 
 // The tree of the live lines is built anew and compared; then the lines of each leaf are tried against each other.
-fn built_same(lines: &[u16], nodes: &[u16], listings: &[u16], built: &mut [u16], named: &mut [u16]) -> bool
+fn built_same(
+    lines: &[u16],
+    nodes: &[u16],
+    listings: &[u16],
+    built: &mut [u16],
+    named: &mut [u16],
+) -> bool
     requires { ⌜ Comparing (now lines) (now nodes) (now listings) (now built) (now named) ⌝ }
     ensures { λ r. ⌜ r ≡ sound baseRule (tables (now (lines .entry)) (now (nodes .entry)) (now (listings .entry))) ⌝ }
 {
@@ -66,7 +73,13 @@ fn trees_sound(lines: &[u16], nodes: &[u16], listings: &[u16]) -> bool
     let mut made_listings = [0u16; 16384];
     let n = nodes.len();
     let m = listings.len();
-    built_same(lines, nodes, listings, &mut made_nodes[..n], &mut made_listings[..m])
+    built_same(
+        lines,
+        nodes,
+        listings,
+        &mut made_nodes[..n],
+        &mut made_listings[..m],
+    )
 }
 
 // The map is sound: what every call but start tests after the lengths.
@@ -117,7 +130,13 @@ fn put_line(
     true
 }
 
-fn put_if_room(lines: &mut [u16], nodes: &mut [u16], listings: &mut [u16], slot: usize, row: Row) -> bool
+fn put_if_room(
+    lines: &mut [u16],
+    nodes: &mut [u16],
+    listings: &mut [u16],
+    slot: usize,
+    row: Row,
+) -> bool
     requires { ⌜ Room (now lines) (now nodes) (now listings) slot row ⌝ }
     ensures { λ r. ⌜ Put (tables (now (lines .entry)) (now (nodes .entry)) (now (listings .entry))) (withSlot (now (lines .entry)) slot (entriesOf row))
         (tables (now (lines .exit)) (now (nodes .exit)) (now (listings .exit))) r ⌝ }
@@ -126,11 +145,25 @@ fn put_if_room(lines: &mut [u16], nodes: &mut [u16], listings: &mut [u16], slot:
     let mut named = [0u16; 16384];
     let n = nodes.len();
     let m = listings.len();
-    put_line(lines, nodes, listings, slot, row, &mut built[..n], &mut named[..m])
+    put_line(
+        lines,
+        nodes,
+        listings,
+        slot,
+        row,
+        &mut built[..n],
+        &mut named[..m],
+    )
 }
 
 // The line into its slot, its generation raised by 1.
-fn place(lines: &mut [u16], nodes: &mut [u16], listings: &mut [u16], slot: usize, g: Given) -> Answer
+fn place(
+    lines: &mut [u16],
+    nodes: &mut [u16],
+    listings: &mut [u16],
+    slot: usize,
+    g: Given,
+) -> Answer
     requires { ⌜ Placing (now lines) (now nodes) (now listings) slot g ⌝ }
     ensures { λ r. ⌜ Replies r (now (lines .exit)) (now (nodes .exit)) (now (listings .exit)) (insertOf baseRule (tables (now (lines .entry)) (now (nodes .entry)) (now (listings .entry))) g) ⌝ }
 {
@@ -199,6 +232,31 @@ pub fn delete(lines: &mut [u16], nodes: &mut [u16], listings: &mut [u16], handle
         return Answer::UnknownHandle;
     }
     take_line(lines, nodes, listings, slot_of(handle));
+    Answer::Done(0)
+}
+
+pub fn locate(
+    lines: &[u16],
+    nodes: &[u16],
+    listings: &[u16],
+    points: &[u16],
+    answers: &mut [u32],
+) -> Answer
+    ensures { λ r. ⌜ Locates r (now (answers .exit)) (locateOf baseRule (tables (now (lines .entry)) (now (nodes .entry)) (now (listings .entry))) (now (points .entry)) (now (answers .entry))) ⌝ }
+{
+    if !lengths_fit(lines, nodes, listings) {
+        return Answer::Lengths;
+    }
+    if points.len() % 2 != 0 {
+        return Answer::Lengths;
+    }
+    if points.len() / 2 != answers.len() {
+        return Answer::Lengths;
+    }
+    if !is_sound(lines, nodes, listings) {
+        return Answer::Damaged;
+    }
+    answer_all(lines, nodes, listings, points, answers);
     Answer::Done(0)
 }
 

@@ -1,0 +1,30 @@
+-- What the C host gets: one 64-bit number, and every entry of the lent tables and lists afterwards.
+use mathlib.Core.Path.{_≡_}
+use mathlib.Core.List.{List}
+use Prim.Native.Nat.{ℕ}
+use Rattle.definitions.specs.Calls.{Reply, numberOf}
+use Rattle.definitions.specs.Lookup.{Located}
+use Rattle.definitions.specs.Tables.{Tables}
+use Rattle.map.specs.Promise.{tables}
+
+-- the number, and the three tables
+pub record Numbered : Type 0 where
+  pub number : ℕ
+  pub after : Tables
+
+abbrev pub numbered : Reply → Numbered
+numbered y = record { number = numberOf (y .answer); after = y .after }
+
+-- the number, and the answer list
+pub record Counted : Type 0 where
+  pub number : ℕ
+  pub answers : List ℕ
+
+abbrev pub counted : Located → Counted
+counted y = record { number = numberOf (y .answer); answers = y .answers }
+
+abbrev pub Tells : ℕ → List ℕ → List ℕ → List ℕ → Reply → Type 0
+Tells r lines nodes listings y = (record { number = r; after = tables lines nodes listings }) ≡ numbered y
+
+abbrev pub Answers : ℕ → List ℕ → Located → Type 0
+Answers r answers y = (record { number = r; answers = answers }) ≡ counted y
