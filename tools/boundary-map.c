@@ -45,16 +45,33 @@ static const char *value_of(const char *argument, const char *name) {
   return strncmp(argument, name, length) == 0 && argument[length] == '=' ? argument + length + 1 : NULL;
 }
 
+/* An option that stands alone; NULL if the argument is none. */
+static int *flag_of(struct options *options, const char *argument) {
+  if (strcmp(argument, "--help") == 0) return &options->help;
+  if (strcmp(argument, "--version") == 0) return &options->version;
+  if (strcmp(argument, "--whole") == 0) return &options->whole;
+  return NULL;
+}
+
 /* Reads one argument; answers how many it took, 0 if it is bad. */
 static int read_option(struct options *options, char **at) {
+  int *flag = flag_of(options, at[0]);
   const char *svg = value_of(at[0], "--svg");
-  if (strcmp(at[0], "--help") == 0) return options->help = 1;
-  if (strcmp(at[0], "--version") == 0) return options->version = 1;
-  if (strcmp(at[0], "--whole") == 0) return options->whole = 1;
-  if (strcmp(at[0], "--svg") == 0 && at[1] != NULL) return options->svg = at[1], 2;
-  if (svg != NULL) return options->svg = svg, 1;
+  if (flag != NULL) {
+    *flag = 1;
+    return 1;
+  }
+  if (strcmp(at[0], "--svg") == 0 && at[1] != NULL) {
+    options->svg = at[1];
+    return 2;
+  }
+  if (svg != NULL) {
+    options->svg = svg;
+    return 1;
+  }
   if ((at[0][0] == '-' && at[0][1] != '\0') || options->script != NULL) return 0;
-  return options->script = at[0], 1;
+  options->script = at[0];
+  return 1;
 }
 
 static int read_options(struct options *options, char **at) {
@@ -129,7 +146,7 @@ static int replay_all(const struct options *options, const struct script *script
   static struct replay replay;
   int status = FINE;
   if (!replay_prepare(&replay, script)) {
-    status = trouble("not enough memory for", options->script);
+    status = trouble("not enough memory for", title_of(options));
   } else {
     replay_run(&replay, script, stdout);
     if (fflush(stdout) != 0 || ferror(stdout)) status = trouble("cannot write", "the answers");

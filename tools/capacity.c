@@ -107,8 +107,7 @@ static int fan256(unsigned i, struct line *line) { return fan(i, 256, line); }
 static int fan64(unsigned i, struct line *line) { return fan(i, 64, line); }
 static int fan4(unsigned i, struct line *line) { return fan(i, 4, line); }
 
-/* A fan that ends in the leaf it begins in, as far as it can be so: short
-** spokes about the middle of a block, which need not part outside it. */
+/* Short fans side by side: 16 spokes each, all round. */
 static int spokes(unsigned i, struct line *line) {
   static const int x[] = {8, 8, 8, 8, 4, 0, -4, -8, -8, -8, -8, -8, -4, 0, 4, 8};
   static const int y[] = {-8, -4, 0, 4, 8, 8, 8, 8, 4, 0, -4, -7, -8, -8, -8, -6};

@@ -120,9 +120,14 @@ static void note_regions(struct picture *p) {
   }
   for (size_t i = 0; i < p->replay->asked_count; i++) {
     uint32_t answer = p->replay->asked[i].answer;
-    if (boundary_map_is_off_grid(answer)) p->off_grid++;
-    else if (boundary_map_is_on_line(answer)) p->on_line++;
-    else p->regions[answer].seen = 1, p->regions[answer].asked++;
+    if (boundary_map_is_off_grid(answer)) {
+      p->off_grid++;
+    } else if (boundary_map_is_on_line(answer)) {
+      p->on_line++;
+    } else {
+      p->regions[answer].seen = 1;
+      p->regions[answer].asked++;
+    }
   }
   for (size_t label = 1; label < 65536; label++)
     if (p->regions[label].seen) p->regions[label].rank = rank++;
