@@ -62,8 +62,8 @@ static int ditch(unsigned i, struct line *line) {
 
 /* Loose fences of up to 300 steps, anywhere. */
 static int loose(unsigned i, struct line *line) {
-  unsigned x = some(16000), y = some(16000);
-  *line = between(x, y, x + some(300), y + some(300));
+  unsigned x = some(16000), y = some(16000), across = some(300), up = some(300);
+  *line = between(x, y, x + across, y + up);
   return i < 4000;
 }
 
