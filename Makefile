@@ -1,0 +1,72 @@
+# make           proves and builds the library, and builds the tool over it
+# make demo      replays examples/demo.map and draws build/demo.svg
+# make test      the header, the tool and its examples; then all of tests/run
+# make capacity  prints the table of docs/CAPACITY.md
+# make valgrind  the tool over all examples, under valgrind
+# make examples  writes what the examples are expected to give anew: read the difference
+# make install   header, library, pkg-config file, tool and man page; DESTDIR=.. PREFIX=..
+# make clean     removes build/ (what is proved stays in target/)
+#
+# LIB=FILE links another library with the same calls, as for trials.
+
+PREFIX = /usr/local
+LIB = target/staticlib/libhost.a
+CFLAGS = -O2 -g
+WARNINGS = -Wall -Wextra -Wpedantic -Wshadow -Wconversion
+BUILD_C = $(CC) -std=c99 $(WARNINGS) $(CFLAGS) -Iinclude
+
+VERSION = $(shell sed -n 's/^.define BOUNDARY_MAP_VERSION "\(.*\)"/\1/p' include/boundary_map.h)
+TOOL = tools/boundary-map.c tools/picture.c tools/replay.c tools/script.c tools/tables.c
+HEADERS = include/boundary_map.h tools/picture.h tools/replay.h tools/script.h tools/tables.h
+EXAMPLES = $(wildcard examples/*.map)
+
+all: build/boundary-map
+
+# The library is made by the prover; whatever it is proved from makes it anew.
+target/staticlib/libhost.a: crates.txt $(shell find crates -name '*.rt' -o -name '*.antt')
+	rt staticlib host
+	@touch $@
+
+build/boundary-map: $(TOOL) $(HEADERS) $(LIB)
+	@mkdir -p build
+	$(BUILD_C) $(TOOL) $(LIB) $(LDFLAGS) -lm -o $@
+
+build/capacity: tools/capacity.c tools/tables.c $(HEADERS) $(LIB)
+	@mkdir -p build
+	$(BUILD_C) tools/capacity.c tools/tables.c $(LIB) $(LDFLAGS) -o $@
+
+demo: build/boundary-map
+	@build/boundary-map --svg build/demo.svg examples/demo.map > build/demo.out
+	@tail -n 4 build/demo.out
+	@echo
+	@echo 'each answer: build/demo.out; the map drawn: build/demo.svg'
+
+capacity: build/capacity
+	@build/capacity
+
+check: build/boundary-map
+	@CC='$(CC)' CXX='$(CXX)' LIB='$(abspath $(LIB))' tests/tool/run
+
+test: check
+	@CC='$(CC)' LIB='$(abspath $(LIB))' tests/run
+
+valgrind: build/boundary-map
+	@CC='$(CC)' CXX='$(CXX)' LIB='$(abspath $(LIB))' tests/tool/run valgrind
+
+examples: build/boundary-map
+	@for e in $(EXAMPLES:.map=); do build/boundary-map --svg $$e.svg $$e.map > $$e.out || exit 1; done
+
+install: build/boundary-map
+	install -d '$(DESTDIR)$(PREFIX)/include' '$(DESTDIR)$(PREFIX)/lib/pkgconfig' \
+	  '$(DESTDIR)$(PREFIX)/bin' '$(DESTDIR)$(PREFIX)/share/man/man1'
+	install -m 644 include/boundary_map.h '$(DESTDIR)$(PREFIX)/include'
+	install -m 644 $(LIB) '$(DESTDIR)$(PREFIX)/lib/libboundary_map.a'
+	sed -e 's|@PREFIX@|$(PREFIX)|; s|@VERSION@|$(VERSION)|' include/boundary_map.pc.in > build/boundary_map.pc
+	install -m 644 build/boundary_map.pc '$(DESTDIR)$(PREFIX)/lib/pkgconfig'
+	install -m 755 build/boundary-map '$(DESTDIR)$(PREFIX)/bin'
+	install -m 644 docs/man/boundary-map.1 '$(DESTDIR)$(PREFIX)/share/man/man1'
+
+clean:
+	rm -rf build
+
+.PHONY: all demo capacity check test valgrind examples install clean

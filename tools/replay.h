@@ -1,0 +1,37 @@
+/* Replaying a script through the library, as a tablet's host would call it. */
+#ifndef REPLAY_H
+#define REPLAY_H
+
+#include <stdio.h>
+
+#include "script.h"
+#include "tables.h"
+
+/* A point asked, and what was answered at the time. */
+struct asked {
+  uint16_t x, y;
+  uint32_t answer;
+};
+
+/* What a replay leaves: the last map, and what was asked of it, for drawing. */
+struct replay {
+  struct map map;
+  struct asked *asked;
+  size_t asked_count;
+  struct leaf *leaves;
+  size_t leaves_count;
+  size_t refused[BOUNDARY_MAP_UNKNOWN_HANDLE + 1];
+  uint16_t *points;
+  uint32_t *answers;
+};
+
+/* Has all memory that the script will need, so that a replay is never left in
+** the middle. Answers 0 if there is not enough; free in any case. */
+int replay_prepare(struct replay *replay, const struct script *script);
+
+/* Does every command, printing each answer, and how full the map is at the end. */
+void replay_run(struct replay *replay, const struct script *script, FILE *out);
+
+void replay_free(struct replay *replay);
+
+#endif
