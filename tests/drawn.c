@@ -9,6 +9,7 @@ enum { LAST = 16383 };
 
 static struct {
     int32_t x, y, side;
+    int32_t reach;               /* a stroke's far end is drawn no farther off than this, as a rule */
 } frame;
 
 static uint16_t on_grid(int32_t v)
@@ -30,6 +31,7 @@ void choose_frame(void)
         frame.x = one_in(2) ? 0 : LAST - frame.side;
         frame.y = one_in(2) ? 0 : LAST - frame.side;
     }
+    frame.reach = one_in(3) ? frame.side : frame.side / between(3, 12) + 1;
 }
 
 static void in_frame(uint16_t *x, uint16_t *y)
@@ -54,7 +56,7 @@ size_t any_room(void)
 
 static size_t any_slots(void)
 {
-    return one_in(3) ? under(60) + 1 : under(16) + 4;
+    return one_in(2) ? under(80) + 1 : under(16) + 4;
 }
 
 /* Lines that are there */
@@ -219,7 +221,12 @@ static void draw_at_line(struct stroke *s, size_t at)
         s->x2 = on_grid(peek(LINES, at + 6 - end) + between(-1, 1));
         s->y2 = on_grid(peek(LINES, at + 7 - end) + between(-1, 1));
         break;
+    case 5:
+        in_frame(&s->x2, &s->y2);
+        break;
     default:
+        s->x2 = on_grid(s->x1 + between(-frame.reach, frame.reach));
+        s->y2 = on_grid(s->y1 + between(-frame.reach, frame.reach));
         break;
     }
 }
@@ -229,7 +236,8 @@ void draw_anyhow(struct stroke *s)
     long at = one_in(2) ? some_line() : -1;
 
     in_frame(&s->x1, &s->y1);
-    in_frame(&s->x2, &s->y2);
+    s->x2 = on_grid(s->x1 + between(-frame.reach, frame.reach));
+    s->y2 = on_grid(s->y1 + between(-frame.reach, frame.reach));
     if (one_in(8))
         s->x2 = s->x1;
     if (one_in(8))
@@ -348,12 +356,13 @@ static void draw_fence(struct stroke *s)
 
 void part_fields(void)
 {
-    int across = between(2, 6), up = between(2, 5);
+    int across = between(2, 8), up = between(2, 7);
     int32_t widest = across > up ? across : up;
     int32_t pitch = between(1, one_in(2) ? 40 : 16384 / widest);
     size_t i;
 
     frame.side = (widest - 1) * pitch;
+    frame.reach = pitch;
     frame.x = between(0, LAST - frame.side);
     frame.y = between(0, LAST - frame.side);
     make_net(across, up, frame.x, frame.y, pitch, pitch / 5);
@@ -364,7 +373,7 @@ void part_fields(void)
         if (one_in(3))
             ask_points(16);
     }
-    live_on(60, draw_fence);
+    live_on(80, draw_fence);
 }
 
 /* Fences: short ones, put up and taken down */
@@ -373,7 +382,7 @@ void part_fences(void)
 {
     choose_frame();
     begin(any_slots(), any_room(), any_room());
-    live_on(150, draw_anyhow);
+    live_on(250, draw_anyhow);
 }
 
 /* Fans: lines from one hub, some in one direction, some a step apart at their far ends */
@@ -443,7 +452,7 @@ void part_parallels(void)
     int32_t length = between(1, one_in(4) ? LAST : 400);
 
     choose_frame();
-    frame.side = length;
+    frame.side = frame.reach = length;
     first_parallel.x1 = (uint16_t)between(0, LAST - length);
     first_parallel.y1 = (uint16_t)between(0, LAST - length);
     first_parallel.x2 = (uint16_t)(first_parallel.x1 + length);
@@ -548,6 +557,7 @@ void part_rims(void)
     choose_frame();
     frame.x = frame.y = 0;
     frame.side = LAST;
+    frame.reach = between(1, LAST);
     begin(any_slots(), any_room(), any_room());
     live_on(120, draw_at_rim);
 }
@@ -557,7 +567,7 @@ void part_rims(void)
 void part_crowd(void)
 {
     choose_frame();
-    frame.side = between(1, 6);
+    frame.side = frame.reach = between(1, 6);
     begin(under(30) + 1, PLAIN_ROOM, PLAIN_ROOM);
     live_on(200, draw_anyhow);
 }
@@ -586,7 +596,7 @@ void part_large(void)
     int calls;
 
     frame.x = frame.y = 0;
-    frame.side = LAST;
+    frame.side = frame.reach = LAST;
     make_net(across, up, pitch / 3, pitch / 3, pitch, pitch / 5);
     shuffle_net();
     lay_net(one_in(4) ? 1024 : net.count + under(2));

@@ -139,7 +139,7 @@ int main(void)
             failed++;
     }
     printf("flips: %lu bits turned, %lu of them left a sound map, %llu calls compared\n", turned, still_sound,
-           (unsigned long long)calls_made);
+           (unsigned long long)met.calls);
     printf("flips: %d passed, %d failed\n", passed, failed);
     return failed != 0;
 }

@@ -9,8 +9,7 @@
 #include <stdlib.h>
 #include <string.h>
 
-uint64_t calls_made;
-uint64_t refusals_met[9];
+struct met met;
 
 static jmp_buf out_of_part;
 static const char *part_name;
@@ -262,7 +261,7 @@ static void print_map(void)
 void fail(const char *what)
 {
     printf("%s, seed %llu, call %llu: %s: %s\n", part_name, (unsigned long long)part_seed,
-           (unsigned long long)calls_made, doing, what);
+           (unsigned long long)met.calls, doing, what);
     print_map();
     longjmp(out_of_part, 1);
 }
@@ -295,11 +294,22 @@ static int same_lent(const struct lent *library, const struct lent *plain)
         && guards_stand(library) && guards_stand(plain);
 }
 
+static void count_call(uint64_t plain)
+{
+    met.refusals[plain >> 32]++;
+    if (map.plain.verdict != PLAIN_SOUND)
+        return;
+    met.sound_calls++;
+    met.live_lines += map.plain.count;
+    if (map.plain.count > met.most_lines)
+        met.most_lines = map.plain.count;
+}
+
 static void compare_all(uint64_t library, uint64_t plain)
 {
     int i;
 
-    calls_made++;
+    met.calls++;
     if (library != plain)
         differ("library gives %llu, %llu, plain search %llu, %llu", (unsigned long long)(library >> 32),
                (unsigned long long)(library & 0xffffffff), (unsigned long long)(plain >> 32),
@@ -307,7 +317,7 @@ static void compare_all(uint64_t library, uint64_t plain)
     for (i = 0; i < TABLES; i++)
         if (!same_lent(&map.of_library[i], &map.of_plain[i]))
             compare_lent(table_names[i], &map.of_library[i], &map.of_plain[i]);
-    refusals_met[plain >> 32]++;
+    count_call(plain);
 }
 
 /* The calls */
@@ -388,6 +398,20 @@ static void compare_answers(size_t answers_len)
         differ("the point list, or a word beside it, was written");
 }
 
+static void count_answers(size_t answers_len)
+{
+    uint32_t a;
+    size_t i;
+
+    for (i = 0; i < answers_len; i++) {
+        memcpy(&a, lists.answers[1].entries + 2 * i, sizeof a);
+        if (a < 65536)
+            met.answers[a == 0 ? ANSWER_NONE : ANSWER_LABEL]++;
+        else
+            met.answers[a == UINT32_MAX ? ANSWER_OFF_GRID : ANSWER_ON_LINE]++;
+    }
+}
+
 uint64_t locate_lengths(const uint16_t *points, size_t points_len, size_t answers_len)
 {
     uint64_t library, plain;
@@ -400,6 +424,8 @@ uint64_t locate_lengths(const uint16_t *points, size_t points_len, size_t answer
                          (uint32_t *)(void *)lists.answers[1].entries, answers_len);
     compare_all(library, plain);
     compare_answers(answers_len);
+    if (plain == 0)
+        count_answers(answers_len);
     return plain;
 }
 

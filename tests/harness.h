@@ -59,9 +59,16 @@ int run_part(const char *name, uint64_t with_seed, void (*part)(void));
 /* Says that something else than a comparison went wrong, and ends the part. */
 void fail(const char *what);
 
-/* Calls made, and how often each number from 0 to 8 came back. */
-extern uint64_t calls_made;
-extern uint64_t refusals_met[9];
+/* What was met on the way: it tells whether a test asked for anything at all. */
+enum { ANSWER_NONE, ANSWER_LABEL, ANSWER_ON_LINE, ANSWER_OFF_GRID, ANSWERS };
+
+extern struct met {
+    uint64_t calls;
+    uint64_t refusals[9];                /* how often each number from 0 to 8 came back */
+    uint64_t answers[ANSWERS];           /* of locate, by kind */
+    uint64_t sound_calls, live_lines;    /* calls on sound maps, and the lines these had, summed up */
+    uint64_t most_lines;
+} met;
 
 /* A number from the environment, or else this one. */
 uint64_t setting(const char *name, uint64_t otherwise);

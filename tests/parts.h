@@ -17,6 +17,7 @@ void part_large(void);
 /* spoiled.c: handles, lengths, room, and tables that hold anything at all */
 void part_handles(void);
 void part_garbage(void);
+void part_orders(void);
 void part_one_fault(void);
 void part_noise(void);
 void part_lengths(void);

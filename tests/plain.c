@@ -456,7 +456,7 @@ void plain_used(const struct plain *p, size_t *nodes, size_t *listings)
     size_t left = 1;
 
     *nodes = *listings = 0;
-    for (; left > 0; (*nodes)++) {
+    for (; left > 0 && *nodes < p->nodes_len; (*nodes)++) {
         if (p->nodes[*nodes] == DIVIDED) {
             left += 3;
         } else {

@@ -141,7 +141,8 @@ static void spoil(void)
     for (; times > 0; times--) {
         int table = (int)under(TABLES);
 
-        spoil_one(table, in_use[table]);
+        if (said(table) > 0)
+            spoil_one(table, in_use[table]);
     }
 }
 
@@ -156,6 +157,54 @@ void part_garbage(void)
         ask_all();
         if (one_in(20))
             start();
+        put_back();
+    }
+}
+
+/* Orders: calls to which several refusals apply at once, so that the first of them must be given */
+
+static void draw_doubly_wrong(struct stroke *s)
+{
+    draw_anyhow(s);
+    if (one_in(3))
+        *(one_in(2) ? &s->x1 : &s->y1) = (uint16_t)(16384 + (one_in(2) ? 0 : under(49152)));
+    if (one_in(3)) {
+        s->x2 = s->x1;
+        s->y2 = s->y1;
+    }
+}
+
+static void ask_doubly_wrong(void)
+{
+    struct stroke s;
+
+    draw_doubly_wrong(&s);
+    insert_stroke(&s);
+    delete_handle(false_handle());
+    ask_points(2);
+}
+
+/* Few slots and little room: a line may conflict, find no slot and find no room, all in one. */
+void part_orders(void)
+{
+    const size_t slots = under(3) + 1, nodes_len = 4 * under(20) + 1, listings_len = under(8);
+    int times;
+
+    choose_frame();
+    lend(8 * slots + 1, nodes_len, listings_len);
+    say(LINES, 8 * slots);
+    start();
+    for (times = 0; times < 30; times++) {
+        live_on(2, draw_anyhow);
+        ask_doubly_wrong();
+        keep();
+        spoil();
+        ask_doubly_wrong();
+        if (one_in(2)) {
+            say(LINES, 8 * slots + 1);
+            ask_doubly_wrong();
+            say(LINES, 8 * slots);
+        }
         put_back();
     }
 }
