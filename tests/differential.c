@@ -14,12 +14,12 @@ static const struct {
     void (*run)(void);
     uint64_t every;
 } parts[] = {
-    { "fields", part_fields, 1 },       { "fences", part_fences, 1 },   { "fans", part_fans, 1 },
-    { "parallels", part_parallels, 1 }, { "corners", part_corners, 1 }, { "rims", part_rims, 1 },
-    { "crowd", part_crowd, 1 },         { "handles", part_handles, 1 }, { "garbage", part_garbage, 1 },
-    { "orders", part_orders, 1 },       { "one fault", part_one_fault, 1 },
-    { "noise", part_noise, 1 },         { "lengths", part_lengths, 1 },
-    { "room", part_room, 1 },           { "large", part_large, 6 },
+    { "fields", part_fields, 1 },       { "fences", part_fences, 1 },       { "fans", part_fans, 1 },
+    { "parallels", part_parallels, 1 }, { "corners", part_corners, 1 },     { "rims", part_rims, 1 },
+    { "crowd", part_crowd, 1 },         { "deep", part_deep, 1 },           { "handles", part_handles, 1 },
+    { "garbage", part_garbage, 1 },     { "one fault", part_one_fault, 1 }, { "noise", part_noise, 1 },
+    { "orders", part_orders, 1 },       { "lengths", part_lengths, 1 },     { "room", part_room, 1 },
+    { "large", part_large, 6 },
 };
 
 enum { PARTS = sizeof parts / sizeof *parts };

@@ -572,6 +572,62 @@ void part_crowd(void)
     live_on(200, draw_anyhow);
 }
 
+/* Deep: upright lines a step apart make long columns of smallest leaves. What a point above them is answered lies
+ * under them all, or is not there. */
+
+/* Two poles from the same height, one step apart, sometimes with a gap in one of them. */
+static void put_poles(uint16_t x, uint16_t foot, uint16_t length)
+{
+    uint16_t break_at = (uint16_t)(foot + between(1, length - 1));
+
+    insert(x, foot, x, (uint16_t)(foot + length), any_label(), any_label());
+    if (one_in(2)) {
+        insert((uint16_t)(x + 1), foot, (uint16_t)(x + 1), (uint16_t)(foot + length), any_label(), any_label());
+    } else {
+        insert((uint16_t)(x + 1), foot, (uint16_t)(x + 1), break_at, any_label(), any_label());
+        insert((uint16_t)(x + 1), (uint16_t)(foot + length), (uint16_t)(x + 1), (uint16_t)(break_at + 1),
+               any_label(), any_label());
+    }
+}
+
+static void put_floor(uint16_t x, uint16_t foot)
+{
+    insert(on_grid(x - between(0, 300)), on_grid(foot - between(1, 200)), on_grid(x + between(1, 300)),
+           on_grid(foot - between(1, 200)), any_label(), any_label());
+}
+
+static void ask_above(uint16_t x, uint16_t foot, uint16_t length)
+{
+    uint16_t points[2 * MOST_POINTS];
+    size_t i;
+
+    for (i = 0; i < 24; i++) {
+        points[2 * i] = on_grid(x + between(-1, 2));
+        points[2 * i + 1] = on_grid(foot + length + between(-length, one_in(2) ? 3 : 2000));
+    }
+    locate(points, 24);
+}
+
+void part_deep(void)
+{
+    uint16_t x = (uint16_t)between(1, LAST - 2), foot = (uint16_t)between(0, LAST - 1200);
+    uint16_t length = (uint16_t)between(30, 130), poles = (uint16_t)between(1, 4), i;
+
+    frame.x = x - 5;
+    frame.y = foot;
+    frame.side = frame.reach = 10;
+    begin(20, PLAIN_ROOM, PLAIN_ROOM);
+    if (!one_in(3))
+        put_floor(x, foot);
+    for (i = 0; i < poles; i++) {
+        put_poles(x, (uint16_t)(foot + i * (length + 2)), length);
+        ask_above(x, foot, (uint16_t)((i + 1) * (length + 2)));
+    }
+    put_floor(x, foot);
+    ask_above(x, foot, (uint16_t)(poles * (length + 2)));
+    live_on(8, draw_anyhow);
+}
+
 /* Large: a net of hundreds of fences, laid down at once, and few calls on it */
 
 static void lay_net(size_t slots)

@@ -12,6 +12,7 @@ void part_parallels(void);
 void part_corners(void);
 void part_rims(void);
 void part_crowd(void);
+void part_deep(void);
 void part_large(void);
 
 /* spoiled.c: handles, lengths, room, and tables that hold anything at all */
