@@ -1,6 +1,6 @@
 /* The library against the plain search, over chance maps of every kind, with fixed seeds.
  *
- *   CALLS=N   go on for at least N calls (200,000 if not said)
+ *   CALLS=N   go on for at least N calls (500,000 if not said)
  *   SEED=N    other maps than the usual ones
  *   FIRST=1   end at the first part that fails
  *   TIGHT=1   no guard words, memory ends where tables end: for a run under a checker of memory */
@@ -19,7 +19,7 @@ static const struct {
     { "crowd", part_crowd, 1 },         { "deep", part_deep, 1 },           { "handles", part_handles, 1 },
     { "garbage", part_garbage, 1 },     { "one fault", part_one_fault, 1 }, { "noise", part_noise, 1 },
     { "orders", part_orders, 1 },       { "lengths", part_lengths, 1 },     { "room", part_room, 1 },
-    { "large", part_large, 6 },
+    { "large", part_large, 3 },
 };
 
 enum { PARTS = sizeof parts / sizeof *parts };
@@ -74,7 +74,7 @@ static void report(void)
 
 int main(void)
 {
-    uint64_t wanted = setting("CALLS", 200000), first_seed = setting("SEED", 1), round;
+    uint64_t wanted = setting("CALLS", 500000), first_seed = setting("SEED", 1), round;
     int most_failures = setting("FIRST", 0) != 0 ? 1 : PARTS;
 
     for (round = 0; met.calls < wanted && failures() < most_failures; round++)
