@@ -17,6 +17,11 @@ static uint16_t on_grid(int32_t v)
     return (uint16_t)(v < 0 ? 0 : v > LAST ? LAST : v);
 }
 
+static uint16_t off_grid(void)
+{
+    return (uint16_t)(LAST + 1 + (one_in(2) ? 0 : under(49152)));
+}
+
 void choose_frame(void)
 {
     static const int32_t sides[] = { 3, 7, 15, 40, 150, 1000, 5000, LAST };
@@ -166,9 +171,9 @@ static void any_point(uint16_t *x, uint16_t *y)
     else if (one_in(4))
         *y = LAST;
     if (one_in(40))
-        *x = (uint16_t)(LAST + 1 + (one_in(2) ? 0 : under(49152)));
+        *x = off_grid();
     if (one_in(40))
-        *y = (uint16_t)(LAST + 1 + (one_in(2) ? 0 : under(49152)));
+        *y = off_grid();
 }
 
 void ask_points(size_t most)
@@ -193,6 +198,13 @@ static void turn_over(struct stroke *s)
     s->y2 = t.y1;
     s->left = t.right;
     s->right = t.left;
+}
+
+void put_off_grid(struct stroke *s)
+{
+    uint16_t *const coordinates[4] = { &s->x1, &s->y1, &s->x2, &s->y2 };
+
+    *coordinates[under(4)] = off_grid();
 }
 
 /* To do with a line that is there: from its end, from a point of it, itself, beyond it, or close beside it. */
@@ -249,7 +261,7 @@ void draw_anyhow(struct stroke *s)
     if (one_in(2))
         turn_over(s);
     if (one_in(100))
-        *(one_in(2) ? &s->x1 : &s->y2) = (uint16_t)(LAST + 1 + (one_in(2) ? 0 : under(49152)));
+        put_off_grid(s);
 }
 
 uint64_t insert_stroke(const struct stroke *s)
@@ -539,6 +551,14 @@ static uint16_t at_rim(void)
     return one_in(60) ? off[under(5)] : places[under(11)];
 }
 
+/* One step off the grid and nothing else that tells: all other bits of all coordinates are 0. */
+static void draw_just_off(struct stroke *s)
+{
+    s->x1 = s->y1 = s->x2 = s->y2 = 0;
+    *(one_in(2) ? &s->x1 : &s->y1) = (uint16_t)(one_in(2) ? LAST + 1 : 0);
+    *(one_in(2) ? &s->x2 : &s->y2) = (uint16_t)(one_in(2) ? LAST + 1 : 0);
+}
+
 static void draw_at_rim(struct stroke *s)
 {
     draw_anyhow(s);
@@ -546,6 +566,10 @@ static void draw_at_rim(struct stroke *s)
     s->y1 = at_rim();
     s->x2 = at_rim();
     s->y2 = at_rim();
+    if (one_in(20)) {
+        draw_just_off(s);
+        return;
+    }
     if (one_in(4))
         s->x1 = (uint16_t)(under(LAST) + 1);
     if (one_in(4))
@@ -628,40 +652,93 @@ void part_deep(void)
     live_on(8, draw_anyhow);
 }
 
-/* Large: a net of hundreds of fences, laid down at once, and few calls on it */
+/* Large: nets of hundreds of fences laid down at once, and few calls on them */
+
+static void lay_stroke(size_t slot, const struct stroke *s)
+{
+    const uint16_t entries[8] = { 1, (uint16_t)(under(65535) + 1), s->x1, s->y1, s->x2, s->y2, s->left,
+                                  s->right };
+    size_t k;
+
+    for (k = 0; k < 8; k++)
+        poke(LINES, 8 * slot + k, entries[k]);
+}
 
 static void lay_net(size_t slots)
 {
-    size_t i, k;
+    size_t i;
 
     begin(slots, PLAIN_ROOM, PLAIN_ROOM);
-    for (i = 0; i < net.count; i++) {
-        const struct stroke *s = &net.fence[i];
-        const uint16_t entries[8] = { 1, (uint16_t)(under(65535) + 1), s->x1, s->y1, s->x2, s->y2, s->left,
-                                      s->right };
-
-        for (k = 0; k < 8; k++)
-            poke(LINES, 8 * i + k, entries[k]);
-    }
-}
-
-void part_large(void)
-{
-    int across = between(9, 32), up = between(9, 16);
-    int32_t pitch = LAST / (across > up ? across : up) - between(0, 20);
-    int calls;
-
-    frame.x = frame.y = 0;
-    frame.side = frame.reach = LAST;
-    make_net(across, up, pitch / 3, pitch / 3, pitch, pitch / 5);
-    shuffle_net();
-    lay_net(one_in(4) ? 1024 : net.count + under(2));
+    for (i = 0; i < net.count; i++)
+        lay_stroke(i, &net.fence[i]);
     if (!rebuild() || !is_sound())
         fail("a large net is not sound");
-    for (calls = 0; calls < 4; calls++) {
+}
+
+static void ask_large(int times)
+{
+    for (; times > 0; times--) {
         ask_points(MOST_POINTS);
         delete_handle(live_handle());
         ask_points(MOST_POINTS);
         insert_stroke(&net.fence[under((uint32_t)net.count)]);
     }
+}
+
+static void make_large_net(int across, int up)
+{
+    int32_t pitch = LAST / (across > up ? across : up) - between(0, 20);
+
+    frame.x = frame.y = 0;
+    frame.side = frame.reach = LAST;
+    make_net(across, up, pitch / 3, pitch / 3, pitch, pitch / 5);
+}
+
+void part_large(void)
+{
+    make_large_net(between(9, 32), between(9, 16));
+    shuffle_net();
+    lay_net(one_in(4) ? PLAIN_SLOTS : net.count + under(2));
+    ask_large(4);
+}
+
+/* Full: all 1,024 slots live, by a net in the southern half of the map and fences in a row north of it */
+void part_full(void)
+{
+    make_large_net(32, 16);
+    while (net.count < PLAIN_SLOTS) {
+        struct stroke *s = &net.fence[net.count];
+        uint16_t x = (uint16_t)(300 * (PLAIN_SLOTS - net.count));
+
+        s->x1 = (uint16_t)(x + 100);
+        s->x2 = (uint16_t)(x + 250);
+        s->y1 = s->y2 = 12000;
+        s->left = s->right = any_label();
+        net.count++;
+    }
+    shuffle_net();
+    lay_net(PLAIN_SLOTS);
+    insert(1, 16000, 16000, 16000, 1, 2);
+    ask_large(1);
+}
+
+/* Great fans: as many rays as slots, all of them in every block on the way down to the hub. Their tree does not
+ * fit; the tables say nothing of it, and the map is damaged. */
+void part_great_fans(void)
+{
+    struct stroke s = { 0, 0, 0, 0, 1, 2 };
+    uint16_t north = one_in(2) ? LAST : 0, far = (uint16_t)(LAST - north);
+    size_t i;
+
+    s.x1 = one_in(2) ? LAST : 0;
+    s.y1 = north;
+    begin(PLAIN_SLOTS, PLAIN_ROOM, PLAIN_ROOM);
+    for (i = 0; i < PLAIN_SLOTS; i++) {
+        s.x2 = (uint16_t)(i * 16);
+        s.y2 = far;
+        lay_stroke(i, &s);
+    }
+    ask_points(1);
+    insert(0, 8000, 1, 8000, 1, 2);
+    delete_handle(live_handle());
 }

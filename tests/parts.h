@@ -14,6 +14,8 @@ void part_rims(void);
 void part_crowd(void);
 void part_deep(void);
 void part_large(void);
+void part_full(void);
+void part_great_fans(void);
 
 /* spoiled.c: handles, lengths, room, and tables that hold anything at all */
 void part_handles(void);
@@ -35,6 +37,8 @@ void choose_frame(void);
 /* Two places in the frame, or a stroke that has to do with a line that is there. */
 void draw_anyhow(struct stroke *s);
 uint16_t any_label(void);
+/* Moves one of its four coordinates off the grid, most often by one. */
+void put_off_grid(struct stroke *s);
 uint64_t insert_stroke(const struct stroke *s);
 /* A handle of a live slot; 0, which is never one, if none was found. */
 uint32_t live_handle(void);

@@ -167,7 +167,7 @@ static void draw_doubly_wrong(struct stroke *s)
 {
     draw_anyhow(s);
     if (one_in(3))
-        *(one_in(2) ? &s->x1 : &s->y1) = (uint16_t)(16384 + (one_in(2) ? 0 : under(49152)));
+        put_off_grid(s);
     if (one_in(3)) {
         s->x2 = s->x1;
         s->y2 = s->y1;
@@ -231,7 +231,7 @@ static void force_line(void)
         s.x2 = s.x1;
         s.y2 = s.y1;
     } else if (one_in(4)) {
-        *(one_in(2) ? &s.x2 : &s.y1) = (uint16_t)(16384 + (one_in(2) ? 0 : under(49152)));
+        put_off_grid(&s);
     }
     put_line(under((uint32_t)(said(LINES) / 8)), &s);
     rebuild();
@@ -447,7 +447,7 @@ void part_noise(void)
 static size_t wrong_length(int table, size_t right)
 {
     static const size_t wrong[TABLES][6] = {
-        { 0, 7, 8, 8191, 8193, 8200 }, { 0, 1, 16384, 16385, 0, 16385 }, { 0, 1, 16384, 16385, 16385, 16385 }
+        { 0, 7, 8191, 8192, 8193, 8200 }, { 0, 1, 16384, 16385, 0, 16385 }, { 0, 1, 16384, 16385, 16385, 16385 }
     };
 
     switch (under(4)) {
