@@ -1,0 +1,328 @@
+/* Document 01's numbers, P1 to P11 and the case that is only run, over the C boundary. Each is written out
+ * here by hand and asked twice: of the library, and of the plain search that the other tests rest on. */
+#include "library.h"
+#include "plain.h"
+
+#include <stdio.h>
+#include <string.h>
+
+/* Both sides, one behind the other's signatures */
+
+struct calls {
+    const char *name;
+    uint64_t (*start)(uint16_t *, size_t, uint16_t *, size_t, uint16_t *, size_t);
+    uint64_t (*insert)(uint16_t *, size_t, uint16_t *, size_t, uint16_t *, size_t, uint16_t, uint16_t,
+                       uint16_t, uint16_t, uint16_t, uint16_t);
+    uint64_t (*remove)(uint16_t *, size_t, uint16_t *, size_t, uint16_t *, size_t, uint32_t);
+    uint64_t (*locate)(const uint16_t *, size_t, const uint16_t *, size_t, const uint16_t *, size_t,
+                       const uint16_t *, size_t, uint32_t *, size_t);
+};
+
+static struct plain oracle;
+
+static uint64_t start_plainly(uint16_t *l, size_t ln, uint16_t *n, size_t nn, uint16_t *s, size_t sn)
+{
+    plain_take(&oracle, l, ln, n, nn, s, sn);
+    return plain_start(&oracle);
+}
+
+static uint64_t insert_plainly(uint16_t *l, size_t ln, uint16_t *n, size_t nn, uint16_t *s, size_t sn,
+                               uint16_t x1, uint16_t y1, uint16_t x2, uint16_t y2, uint16_t left,
+                               uint16_t right)
+{
+    plain_take(&oracle, l, ln, n, nn, s, sn);
+    return plain_insert(&oracle, x1, y1, x2, y2, left, right);
+}
+
+static uint64_t delete_plainly(uint16_t *l, size_t ln, uint16_t *n, size_t nn, uint16_t *s, size_t sn,
+                               uint32_t handle)
+{
+    plain_take(&oracle, l, ln, n, nn, s, sn);
+    return plain_delete(&oracle, handle);
+}
+
+/* The plain search writes no table when it locates; it only keeps them as tables that it may write. */
+static uint64_t locate_plainly(const uint16_t *l, size_t ln, const uint16_t *n, size_t nn, const uint16_t *s,
+                               size_t sn, const uint16_t *points, size_t points_len, uint32_t *answers,
+                               size_t answers_len)
+{
+    static uint16_t lines[8 * PLAIN_SLOTS], nodes[PLAIN_ROOM], listings[PLAIN_ROOM];
+
+    memcpy(lines, l, ln * sizeof *l);
+    memcpy(nodes, n, nn * sizeof *n);
+    memcpy(listings, s, sn * sizeof *s);
+    plain_take(&oracle, lines, ln, nodes, nn, listings, sn);
+    return plain_locate(&oracle, points, points_len, answers, answers_len);
+}
+
+static const struct calls sides[2] = {
+    { "library", boundary_map_start, boundary_map_insert, boundary_map_delete, boundary_map_locate },
+    { "plain search", start_plainly, insert_plainly, delete_plainly, locate_plainly },
+};
+
+/* One map at a time, and shorthands for its calls */
+
+static const struct calls *side;
+static const char *doing;
+static int wrong;
+
+static uint16_t lines[8 * PLAIN_SLOTS], nodes[PLAIN_ROOM], listings[PLAIN_ROOM];
+static size_t slots, node_room, listing_room;
+
+static void expect(int holds, const char *what)
+{
+    if (holds)
+        return;
+    printf("%s, %s: not so: %s\n", side->name, doing, what);
+    wrong = 1;
+}
+
+#define EXPECT(condition) expect((condition), #condition)
+
+static uint64_t refused(uint64_t number, uint64_t detail)
+{
+    return (number << 32) + detail;
+}
+
+/* A fresh map in tables that held something else before. */
+static void fresh(size_t with_slots, size_t with_nodes, size_t with_listings)
+{
+    slots = with_slots;
+    node_room = with_nodes;
+    listing_room = with_listings;
+    memset(lines, 0x5a, sizeof lines);
+    memset(nodes, 0x5a, sizeof nodes);
+    memset(listings, 0x5a, sizeof listings);
+    EXPECT(side->start(lines, 8 * slots, nodes, node_room, listings, listing_room) == 0);
+}
+
+static void fresh_large(void)
+{
+    fresh(4, PLAIN_ROOM, PLAIN_ROOM);
+}
+
+static uint64_t insert_labelled(uint16_t x1, uint16_t y1, uint16_t x2, uint16_t y2, uint16_t left,
+                                uint16_t right)
+{
+    return side->insert(lines, 8 * slots, nodes, node_room, listings, listing_room, x1, y1, x2, y2, left,
+                        right);
+}
+
+static uint64_t insert(uint16_t x1, uint16_t y1, uint16_t x2, uint16_t y2)
+{
+    return insert_labelled(x1, y1, x2, y2, 0, 0);
+}
+
+static uint64_t delete_handle(uint32_t handle)
+{
+    return side->remove(lines, 8 * slots, nodes, node_room, listings, listing_room, handle);
+}
+
+/* The answer for one point; no answer that document 01 knows if the call is refused. */
+static uint32_t locate(uint16_t x, uint16_t y)
+{
+    const uint16_t point[2] = { x, y };
+    uint32_t found = 0xdeadbeef;
+    uint64_t result = side->locate(lines, 8 * slots, nodes, node_room, listings, listing_room, point, 2,
+                                   &found, 1);
+
+    return result == 0 ? found : 0xdeadbeef;
+}
+
+/* Whether a table begins so and is 0 from there on. */
+static int reads(const uint16_t *table, size_t length, const uint16_t *begin, size_t count)
+{
+    size_t i;
+
+    if (count > 0 && memcmp(table, begin, count * sizeof *begin) != 0)
+        return 0;
+    for (i = count; i < length; i++)
+        if (table[i] != 0)
+            return 0;
+    return 1;
+}
+
+/* The cases */
+
+static void p1(void)
+{
+    fresh(4, 1, PLAIN_ROOM);
+    EXPECT(nodes[0] == 0);
+    EXPECT(locate(0, 0) == 0);
+    EXPECT(reads(lines, 32, NULL, 0));
+    EXPECT(reads(listings, listing_room, NULL, 0));
+}
+
+static void p2(void)
+{
+    const uint16_t tree[] = { 65535, 1, 1, 1, 1 }, listed[] = { 0, 0, 0, 0 };
+
+    fresh_large();
+    EXPECT(insert(0, 0, 16383, 16383) == 1);
+    EXPECT(reads(nodes, node_room, tree, 5));
+    EXPECT(reads(listings, listing_room, listed, 4));
+}
+
+static void p3(void)
+{
+    const uint16_t tree[] = { 65535, 0, 0, 1, 1 }, listed[] = { 0, 0 };
+
+    fresh_large();
+    EXPECT(insert(0, 0, 16383, 0) == 1);
+    EXPECT(reads(nodes, node_room, tree, 5));
+    EXPECT(reads(listings, listing_room, listed, 2));
+}
+
+static void p4(void)
+{
+    fresh(4, 57, 2);
+    EXPECT(insert(0, 0, 0, 1) == 1);
+    EXPECT(locate(0, 1) == 65536);
+}
+
+static void refused_for_room(size_t with_nodes, size_t with_listings)
+{
+    fresh(4, with_nodes, with_listings);
+    EXPECT(insert(0, 0, 0, 1) == refused(7, 0));
+    EXPECT(reads(lines, 32, NULL, 0));
+    EXPECT(reads(nodes, node_room, NULL, 0));
+    EXPECT(reads(listings, listing_room, NULL, 0));
+}
+
+static void p5(void)
+{
+    refused_for_room(56, 2);
+    refused_for_room(57, 1);
+    refused_for_room(56, PLAIN_ROOM);
+    refused_for_room(PLAIN_ROOM, 1);
+}
+
+static void p6(void)
+{
+    fresh_large();
+    EXPECT(insert(0, 0, 10, 0) == 1);
+    EXPECT(insert(5, 0, 5, 5) == refused(5, 0));
+    EXPECT(insert(10, 0, 0, 0) == refused(5, 0));
+}
+
+static void p7(void)
+{
+    fresh_large();
+    EXPECT(insert(0, 0, 10, 0) == 1);
+    EXPECT(insert(10, 0, 10, 5) == 65536 + 1);
+    EXPECT(insert(10, 0, 20, 0) == 2 * 65536 + 1);
+    fresh_large();
+    EXPECT(insert(0, 0, 10, 0) == 1);
+    EXPECT(insert(10, 0, 20, 0) == 65536 + 1);
+}
+
+static void p8(void)
+{
+    fresh(1, PLAIN_ROOM, PLAIN_ROOM);
+    EXPECT(insert(0, 0, 10, 0) == 1);
+    EXPECT(delete_handle(1) == 0);
+    EXPECT(insert(0, 0, 10, 0) == 2);
+    EXPECT(delete_handle(1) == refused(8, 0));
+}
+
+static void p9(void)
+{
+    const uint16_t retired[] = { 0, 65535 };
+
+    fresh(1, PLAIN_ROOM, PLAIN_ROOM);
+    lines[1] = 65534;
+    EXPECT(insert(0, 0, 10, 0) == 65535);
+    EXPECT(delete_handle(65535) == 0);
+    EXPECT(reads(lines, 8, retired, 2));
+    EXPECT(insert(0, 0, 10, 0) == refused(6, 0));
+    EXPECT(reads(lines, 8, retired, 2));
+}
+
+static void p10(void)
+{
+    fresh_large();
+    EXPECT(insert_labelled(0, 8000, 16383, 8000, 7, 9) == 1);
+    EXPECT(locate(5, 9000) == 7);
+    EXPECT(locate(5, 8000) == 65536);
+    EXPECT(locate(5, 7999) == 0);
+    EXPECT(locate(16384, 0) == UINT32_C(4294967295));
+    EXPECT(locate(16383, 9000) == 0);
+}
+
+static void p11(void)
+{
+    fresh_large();
+    EXPECT(insert_labelled(0, 0, 10, 0, 1, 0) == 1);
+    EXPECT(insert_labelled(0, 0, 10, 10, 2, 0) == 65536 + 1);
+    EXPECT(locate(0, 5) == 2);
+}
+
+static size_t skip_block(size_t at, size_t *listed)
+{
+    size_t left = 1;
+
+    for (; left > 0; at++) {
+        left += nodes[at] == 65535 ? 3 : 0;
+        left -= nodes[at] == 65535 ? 0 : 1;
+        *listed += nodes[at] == 65535 ? 0 : nodes[at];
+    }
+    return at;
+}
+
+/* Goes down the south-west sons, this many times; the block's node, and the listings before it. */
+static size_t south_west(int times, size_t *listed)
+{
+    size_t at = 0;
+
+    for (*listed = 0; times > 0; times--) {
+        EXPECT(nodes[at] == 65535);
+        at = skip_block(at + 1, listed);
+        at = skip_block(at, listed);
+    }
+    return at;
+}
+
+static void run_only(void)
+{
+    size_t at, listed;
+    int times;
+
+    fresh_large();
+    EXPECT(insert(0, 0, 8, 8) == 1);
+    EXPECT(insert(0, 0, 8, 7) == 65536 + 1);
+    EXPECT(insert(4, 7, 5, 7) == 2 * 65536 + 1);
+    for (times = 0; (32768 >> times) > 16; times++)
+        continue;
+    at = south_west(times, &listed);
+    EXPECT(nodes[at] == 65535);
+    EXPECT(delete_handle(2 * 65536 + 1) == 0);
+    at = south_west(times, &listed);
+    EXPECT(nodes[at] == 2);
+    EXPECT(listings[listed] == 0 && listings[listed + 1] == 1);
+}
+
+static const struct {
+    const char *name;
+    void (*run)(void);
+} cases[] = {
+    { "P1", p1 }, { "P2", p2 }, { "P3", p3 }, { "P4", p4 },    { "P5", p5 },   { "P6", p6 },
+    { "P7", p7 }, { "P8", p8 }, { "P9", p9 }, { "P10", p10 },  { "P11", p11 }, { "the run case", run_only },
+};
+
+int main(void)
+{
+    size_t i, k;
+    int passed = 0, failed = 0;
+
+    for (k = 0; k < 2; k++)
+        for (i = 0; i < sizeof cases / sizeof *cases; i++) {
+            side = &sides[k];
+            doing = cases[i].name;
+            wrong = 0;
+            cases[i].run();
+            passed += !wrong;
+            failed += wrong;
+        }
+    printf("cases: %d passed, %d failed\n", passed, failed);
+    return failed != 0;
+}

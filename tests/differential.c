@@ -1,0 +1,85 @@
+/* The library against the plain search, over chance maps of every kind, with fixed seeds.
+ *
+ *   CALLS=N   go on for at least N calls (500,000 if not said)
+ *   SEED=N    other maps than the usual ones
+ *   FIRST=1   end at the first part that fails
+ *   TIGHT=1   no guard words, memory ends where tables end: for a run under a checker of memory */
+#include "parts.h"
+
+#include <stdio.h>
+
+/* A part is run in every so-many-th round. */
+static const struct {
+    const char *name;
+    void (*run)(void);
+    uint64_t every;
+} parts[] = {
+    { "fields", part_fields, 1 },       { "fences", part_fences, 1 },       { "fans", part_fans, 1 },
+    { "parallels", part_parallels, 1 }, { "corners", part_corners, 1 },     { "rims", part_rims, 1 },
+    { "crowd", part_crowd, 1 },         { "deep", part_deep, 1 },           { "handles", part_handles, 1 },
+    { "garbage", part_garbage, 1 },     { "one fault", part_one_fault, 1 }, { "noise", part_noise, 1 },
+    { "orders", part_orders, 1 },       { "lengths", part_lengths, 1 },     { "room", part_room, 1 },
+    { "large", part_large, 3 },         { "full", part_full, 15 },          { "great fans", part_great_fans, 15 },
+};
+
+enum { PARTS = sizeof parts / sizeof *parts };
+
+static int failed_part[PARTS];
+static uint64_t calls_of_part[PARTS];
+
+static int failures(void)
+{
+    size_t i;
+    int count = 0;
+
+    for (i = 0; i < PARTS; i++)
+        count += failed_part[i];
+    return count;
+}
+
+/* Seeds tell the part and the round; a part that has failed is not run again. */
+static void run_round(uint64_t round, uint64_t first_seed, int most_failures)
+{
+    size_t i;
+
+    for (i = 0; i < PARTS && failures() < most_failures; i++) {
+        uint64_t before = met.calls;
+
+        if (failed_part[i] || round % parts[i].every != 0)
+            continue;
+        failed_part[i] = !run_part(parts[i].name, (first_seed + round) * 100 + i, parts[i].run);
+        calls_of_part[i] += met.calls - before;
+    }
+}
+
+static void report(void)
+{
+    size_t i;
+
+    printf("differential: calls by part:");
+    for (i = 0; i < PARTS; i++)
+        printf(" %s %llu%s", parts[i].name, (unsigned long long)calls_of_part[i], i + 1 < PARTS ? "," : "\n");
+    printf("differential: answers by refusal:");
+    for (i = 0; i < 9; i++)
+        printf(" %zu %llu%s", i, (unsigned long long)met.refusals[i], i + 1 < 9 ? "," : "\n");
+    printf("differential: points: outside or unlabelled %llu, labelled %llu, on a line %llu, off the grid %llu\n",
+           (unsigned long long)met.answers[ANSWER_NONE], (unsigned long long)met.answers[ANSWER_LABEL],
+           (unsigned long long)met.answers[ANSWER_ON_LINE], (unsigned long long)met.answers[ANSWER_OFF_GRID]);
+    printf("differential: %llu calls on sound maps, of %.1f lines on average, %llu at most\n",
+           (unsigned long long)met.sound_calls, (double)met.live_lines / (double)(met.sound_calls + 1),
+           (unsigned long long)met.most_lines);
+    printf("differential: %llu calls, all tables and lists compared after each\n",
+           (unsigned long long)met.calls);
+}
+
+int main(void)
+{
+    uint64_t wanted = setting("CALLS", 500000), first_seed = setting("SEED", 1), round;
+    int most_failures = setting("FIRST", 0) != 0 ? 1 : PARTS;
+
+    for (round = 0; met.calls < wanted && failures() < most_failures; round++)
+        run_round(round, first_seed, most_failures);
+    report();
+    printf("differential: %d passed, %d failed\n", PARTS - failures(), failures());
+    return failures() != 0;
+}

@@ -1,0 +1,768 @@
+/* Stands between the tests and the library and spoils one thing, so that the tests show that they can fail. The
+ * linker's --wrap sends the calls here (see tests/run). PLANT=N chooses the error; 0 spoils nothing, and a number
+ * past the last ends the program with status 77. Errors are kept small: most show in rare maps only. */
+#include "../library.h"
+
+#include <stdio.h>
+#include <stdlib.h>
+#include <string.h>
+
+enum { LAST_GRID = 16383, DIVIDED = 65535, MOST_LINES = 8200, MOST_ROOM = 16385 };
+enum { LIVE, GENERATION, X1, Y1, X2, Y2, LEFT, RIGHT };
+
+struct tables {
+    uint16_t *lines, *nodes, *listings;
+    size_t lines_len, nodes_len, listings_len;
+};
+
+struct lists {
+    const uint16_t *points;
+    uint32_t *answers;
+    size_t points_len, answers_len;
+};
+
+/* The true calls */
+
+uint64_t __real_boundary_map_start(uint16_t *, size_t, uint16_t *, size_t, uint16_t *, size_t);
+uint64_t __real_boundary_map_insert(uint16_t *, size_t, uint16_t *, size_t, uint16_t *, size_t, uint16_t,
+                                    uint16_t, uint16_t, uint16_t, uint16_t, uint16_t);
+uint64_t __real_boundary_map_delete(uint16_t *, size_t, uint16_t *, size_t, uint16_t *, size_t, uint32_t);
+uint64_t __real_boundary_map_locate(const uint16_t *, size_t, const uint16_t *, size_t, const uint16_t *,
+                                    size_t, const uint16_t *, size_t, uint32_t *, size_t);
+
+static uint64_t start(struct tables t)
+{
+    return __real_boundary_map_start(t.lines, t.lines_len, t.nodes, t.nodes_len, t.listings, t.listings_len);
+}
+
+static uint64_t insert(struct tables t, const uint16_t *l)
+{
+    return __real_boundary_map_insert(t.lines, t.lines_len, t.nodes, t.nodes_len, t.listings, t.listings_len,
+                                      l[0], l[1], l[2], l[3], l[4], l[5]);
+}
+
+static uint64_t delete_handle(struct tables t, uint32_t handle)
+{
+    return __real_boundary_map_delete(t.lines, t.lines_len, t.nodes, t.nodes_len, t.listings, t.listings_len,
+                                      handle);
+}
+
+static uint64_t locate(struct tables t, struct lists s)
+{
+    return __real_boundary_map_locate(t.lines, t.lines_len, t.nodes, t.nodes_len, t.listings, t.listings_len,
+                                      s.points, s.points_len, s.answers, s.answers_len);
+}
+
+static uint64_t refusal(uint64_t result)
+{
+    return result >> 32;
+}
+
+static uint64_t refuse(uint64_t number)
+{
+    return number << 32;
+}
+
+/* A copy of the tables, to ask what the map does not say */
+
+static uint16_t copied_lines[MOST_LINES], copied_nodes[MOST_ROOM], copied_listings[MOST_ROOM];
+
+static struct tables copy_of(struct tables t)
+{
+    struct tables c = t;
+
+    c.lines = copied_lines;
+    c.nodes = copied_nodes;
+    c.listings = copied_listings;
+    memcpy(c.lines, t.lines, t.lines_len * sizeof *t.lines);
+    memcpy(c.nodes, t.nodes, t.nodes_len * sizeof *t.nodes);
+    memcpy(c.listings, t.listings, t.listings_len * sizeof *t.listings);
+    return c;
+}
+
+static void put_tree_back(struct tables t, struct tables from)
+{
+    memcpy(t.nodes, from.nodes, t.nodes_len * sizeof *t.nodes);
+    memcpy(t.listings, from.listings, t.listings_len * sizeof *t.listings);
+}
+
+static size_t slots(struct tables t)
+{
+    return t.lines_len / 8;
+}
+
+static uint16_t *slot_at(struct tables t, size_t slot)
+{
+    return t.lines + 8 * slot;
+}
+
+static size_t slot_of(uint64_t handle)
+{
+    return (size_t)(handle & 0xffffffff) / 65536;
+}
+
+/* Where a tree ends, from any of its blocks on; a table that holds no tree ends it too. */
+static size_t past_block(struct tables t, size_t at, size_t *listed)
+{
+    size_t left = 1;
+
+    for (; left > 0 && at < t.nodes_len; at++) {
+        if (t.nodes[at] == DIVIDED) {
+            left += 3;
+        } else {
+            *listed += t.nodes[at];
+            left--;
+        }
+    }
+    return at;
+}
+
+static int is_label(uint32_t found)
+{
+    return found < 65536;
+}
+
+/* Insert */
+
+static uint64_t names_highest_conflict(struct tables t, const uint16_t *l)
+{
+    uint64_t result = insert(t, l), again = result;
+    struct tables c;
+
+    if (refusal(result) != 5)
+        return result;
+    for (c = copy_of(t); refusal(again) == 5; again = insert(c, l)) {
+        uint32_t slot = (uint32_t)(again & 0xffffffff);
+
+        result = again;
+        delete_handle(c, slot * 65536 + slot_at(c, slot)[GENERATION]);
+    }
+    return result;
+}
+
+static uint64_t changes_last_leaf(struct tables t, const uint16_t *l)
+{
+    uint64_t result = insert(t, l);
+    size_t listed = 0, end;
+
+    if (refusal(result) != 0 || slot_of(result) < 3)
+        return result;
+    end = past_block(t, 0, &listed);
+    t.nodes[end - 1] ^= 1;
+    return result;
+}
+
+static uint64_t lists_falling(struct tables t, const uint16_t *l)
+{
+    uint64_t result = insert(t, l);
+    size_t at, listed = 0, end, sum = 0;
+    uint16_t first;
+
+    if (refusal(result) != 0)
+        return result;
+    end = past_block(t, 0, &sum);
+    for (at = 0; at < end; at++) {
+        if (t.nodes[at] == 3) {
+            first = t.listings[listed];
+            t.listings[listed] = t.listings[listed + 1];
+            t.listings[listed + 1] = first;
+            break;
+        }
+        listed += t.nodes[at] == DIVIDED ? 0 : t.nodes[at];
+    }
+    return result;
+}
+
+static uint64_t gives_handle_again(struct tables t, const uint16_t *l)
+{
+    uint64_t result = insert(t, l);
+    uint16_t *s;
+
+    if (refusal(result) != 0)
+        return result;
+    s = slot_at(t, slot_of(result));
+    if (s[GENERATION] < 2)
+        return result;
+    s[GENERATION]--;
+    return result - 1;
+}
+
+static size_t free_slot(struct tables t)
+{
+    size_t i;
+
+    for (i = 0; i < slots(t); i++)
+        if (slot_at(t, i)[LIVE] == 0 && slot_at(t, i)[GENERATION] < 65535)
+            break;
+    return i;
+}
+
+static uint64_t no_room_raises_generation(struct tables t, const uint16_t *l)
+{
+    uint64_t result = insert(t, l);
+
+    if (refusal(result) == 7)
+        slot_at(t, free_slot(t))[GENERATION]++;
+    return result;
+}
+
+/* Whether a line at 45 degrees has but one corner of a block, the one that half-open blocks leave off. */
+static int touches_corner(const uint16_t *s, long west, long south, long side)
+{
+    long dx = (long)s[X2] - s[X1], dy = (long)s[Y2] - s[Y1];
+    long x = 2 * (long)s[X1] + 1, y = 2 * (long)s[Y1] + 1;
+
+    return dx == dy && (y - x == south + side - west || y - x == south - west - side);
+}
+
+struct walk {
+    struct tables t;
+    size_t node, listed, kept;
+};
+
+/* Goes through the tree and drops such listings from it, the rest moving up. */
+static void drop_corners(struct walk *w, long west, long south, long side)
+{
+    size_t at = w->node++, count = w->t.nodes[at], i;
+    long half = side / 2;
+
+    if (count == DIVIDED) {
+        drop_corners(w, west, south + half, half);
+        drop_corners(w, west + half, south + half, half);
+        drop_corners(w, west, south, half);
+        drop_corners(w, west + half, south, half);
+        return;
+    }
+    for (i = 0; i < count; i++) {
+        uint16_t slot = w->t.listings[w->listed++];
+
+        if (touches_corner(slot_at(w->t, slot), west, south, side))
+            w->t.nodes[at]--;
+        else
+            w->t.listings[w->kept++] = slot;
+    }
+}
+
+static uint64_t half_open_blocks(struct tables t, const uint16_t *l)
+{
+    uint64_t result = insert(t, l);
+    struct walk w = { t, 0, 0, 0 };
+
+    if (refusal(result) != 0)
+        return result;
+    drop_corners(&w, 0, 0, 32768);
+    for (; w.kept < w.listed; w.kept++)
+        t.listings[w.kept] = 0;
+    return result;
+}
+
+static int off_grid(const uint16_t *l)
+{
+    return l[0] > LAST_GRID || l[1] > LAST_GRID || l[2] > LAST_GRID || l[3] > LAST_GRID;
+}
+
+static uint64_t off_grid_before_damage(struct tables t, const uint16_t *l)
+{
+    uint64_t result = insert(t, l);
+
+    return refusal(result) == 2 && off_grid(l) ? refuse(3) : result;
+}
+
+static uint64_t no_length_before_off_grid(struct tables t, const uint16_t *l)
+{
+    uint64_t result = insert(t, l);
+
+    return refusal(result) == 3 && l[0] == l[2] && l[1] == l[3] ? refuse(4) : result;
+}
+
+static uint64_t no_slot_before_conflict(struct tables t, const uint16_t *l)
+{
+    uint64_t result = insert(t, l);
+
+    return refusal(result) == 5 && free_slot(t) == slots(t) ? refuse(6) : result;
+}
+
+/* Asks a copy with one slot more, had the map none left. */
+static uint64_t no_room_before_no_slot(struct tables t, const uint16_t *l)
+{
+    uint64_t result = insert(t, l);
+    struct tables c;
+
+    if (refusal(result) != 6 || slots(t) == 1024)
+        return result;
+    c = copy_of(t);
+    memset(c.lines + c.lines_len, 0, 8 * sizeof *c.lines);
+    c.lines_len += 8;
+    return refusal(insert(c, l)) == 7 ? refuse(7) : result;
+}
+
+static uint64_t takes_retired_slot(struct tables t, const uint16_t *l)
+{
+    uint64_t result = insert(t, l);
+    size_t i;
+
+    if (refusal(result) != 6)
+        return result;
+    for (i = 0; i < slots(t); i++)
+        if (slot_at(t, i)[LIVE] == 0) {
+            slot_at(t, i)[GENERATION] = 0;
+            return insert(t, l);
+        }
+    return result;
+}
+
+static uint64_t writes_past_nodes(struct tables t, const uint16_t *l)
+{
+    uint64_t result = insert(t, l);
+
+    if (refusal(result) == 0)
+        t.nodes[t.nodes_len] = 0;
+    return result;
+}
+
+/* One listing fewer is lent than was said. */
+static uint64_t keeps_one_listing_back(struct tables t, const uint16_t *l)
+{
+    uint64_t result = insert(t, l);
+    size_t listed = 0;
+
+    if (refusal(result) != 0)
+        return result;
+    past_block(t, 0, &listed);
+    if (listed < t.listings_len)
+        return result;
+    delete_handle(t, (uint32_t)result);
+    slot_at(t, slot_of(result))[GENERATION]--;
+    return refuse(7);
+}
+
+/* A line from the middle of another is taken, as if only crossing were conflict; tables are left alone. */
+static uint64_t touching_is_no_conflict(struct tables t, const uint16_t *l)
+{
+    uint64_t result = insert(t, l);
+    const uint16_t *s;
+
+    if (refusal(result) != 5 || free_slot(t) == slots(t))
+        return result;
+    s = slot_at(t, result & 0xffffffff);
+    if (s[Y1] != s[Y2] || l[1] != s[Y1] || l[3] == s[Y1])
+        return result;
+    return free_slot(t) * 65536 + slot_at(t, free_slot(t))[GENERATION] + 1;
+}
+
+/* Delete */
+
+static uint64_t leaves_right_label(struct tables t, uint32_t handle)
+{
+    struct tables c = copy_of(t);
+    uint64_t result = delete_handle(t, handle);
+
+    if (refusal(result) == 0)
+        slot_at(t, slot_of(handle))[RIGHT] = slot_at(c, slot_of(handle))[RIGHT];
+    return result;
+}
+
+/* The old tree stays divided and lists no more: only where the line stood alone in every leaf is it the same. */
+static uint64_t leaves_old_tree(struct tables t, uint32_t handle)
+{
+    struct tables c = copy_of(t);
+    uint64_t result = delete_handle(t, handle);
+    size_t before = 0, after = 0;
+
+    if (refusal(result) == 0 && past_block(c, 0, &before) != past_block(t, 0, &after))
+        put_tree_back(t, c);
+    return result;
+}
+
+static uint64_t last_generation_wraps(struct tables t, uint32_t handle)
+{
+    uint64_t result = delete_handle(t, handle);
+
+    if (refusal(result) == 0 && handle % 65536 == 65535)
+        slot_at(t, slot_of(handle))[GENERATION] = 0;
+    return result;
+}
+
+static uint64_t leaves_old_listings(struct tables t, uint32_t handle)
+{
+    struct tables c = copy_of(t);
+    uint64_t result = delete_handle(t, handle);
+    size_t listed = 0;
+
+    if (refusal(result) != 0)
+        return result;
+    past_block(t, 0, &listed);
+    memcpy(t.listings + listed, c.listings + listed, (t.listings_len - listed) * sizeof *t.listings);
+    return result;
+}
+
+static uint64_t takes_any_generation(struct tables t, uint32_t handle)
+{
+    uint64_t result = delete_handle(t, handle);
+    size_t slot = slot_of(handle);
+
+    if (refusal(result) != 8 || slot >= slots(t) || slot_at(t, slot)[LIVE] == 0)
+        return result;
+    return delete_handle(t, (uint32_t)slot * 65536 + slot_at(t, slot)[GENERATION]);
+}
+
+static uint64_t takes_slot_past_last(struct tables t, uint32_t handle)
+{
+    uint64_t result = delete_handle(t, handle);
+
+    if (refusal(result) != 8 || slot_of(handle) != slots(t))
+        return result;
+    return delete_handle(t, (uint32_t)(slots(t) - 1) * 65536 + handle % 65536);
+}
+
+static uint64_t unknown_before_damage(struct tables t, uint32_t handle)
+{
+    uint64_t result = delete_handle(t, handle);
+
+    return refusal(result) == 2 && slot_of(handle) >= slots(t) ? refuse(8) : result;
+}
+
+/* Locate */
+
+static uint64_t reversed_gives_lower_label(struct tables t, struct lists s)
+{
+    struct tables c = copy_of(t);
+    size_t i;
+
+    for (i = 0; i < slots(c); i++) {
+        uint16_t *l = slot_at(c, i), was = l[LEFT];
+
+        if (l[LIVE] != 1 || l[X1] <= l[X2])
+            continue;
+        l[LEFT] = l[RIGHT];
+        l[RIGHT] = was;
+    }
+    return locate(c, s);
+}
+
+static uint32_t upper_label(const uint16_t *l)
+{
+    return l[X1] < l[X2] ? l[LEFT] : l[RIGHT];
+}
+
+static const uint16_t *east_end(const uint16_t *l)
+{
+    return l[X1] < l[X2] ? l + X2 : l + X1;
+}
+
+static const uint16_t *west_end(const uint16_t *l)
+{
+    return l[X1] < l[X2] ? l + X1 : l + X2;
+}
+
+/* Where no line passes below, one that ends straight below does. */
+static void count_east_end(struct tables t, const uint16_t *point, uint32_t *found)
+{
+    size_t i;
+
+    for (i = 0; i < slots(t) && *found == 0; i++) {
+        const uint16_t *l = slot_at(t, i);
+
+        if (l[LIVE] == 1 && l[X1] != l[X2] && east_end(l)[0] == point[0] && east_end(l)[1] < point[1])
+            *found = upper_label(l);
+    }
+}
+
+/* Of two lines with one west end straight below, the one that rises less. */
+static void take_flatter(struct tables t, const uint16_t *point, uint32_t *found)
+{
+    size_t i, k;
+
+    for (i = 0; i < slots(t) && is_label(*found); i++)
+        for (k = 0; k < slots(t); k++) {
+            const uint16_t *a = slot_at(t, i), *b = slot_at(t, k);
+            const uint16_t *from = west_end(a), *to = east_end(a), *other = east_end(b);
+
+            if (a[LIVE] != 1 || b[LIVE] != 1 || a[X1] == a[X2] || b[X1] == b[X2] || upper_label(b) != *found)
+                continue;
+            if (from[0] != point[0] || memcmp(from, west_end(b), 4) != 0 || from[1] >= point[1])
+                continue;
+            if (to[1] <= from[1] && other[1] > from[1]) {
+                *found = upper_label(a);
+                return;
+            }
+        }
+}
+
+static void take_highest_slot(struct tables t, const uint16_t *point, uint32_t *found)
+{
+    size_t i;
+
+    if (is_label(*found) || *found == UINT32_MAX)
+        return;
+    for (i = 0; i < slots(t); i++) {
+        const uint16_t *l = slot_at(t, i);
+
+        if (l[LIVE] == 1 && (memcmp(l + X1, point, 4) == 0 || memcmp(l + X2, point, 4) == 0))
+            *found = 65536 + (uint32_t)i;
+    }
+}
+
+/* A label is given only where the point's own leaf lists some line. */
+static void look_in_own_leaf(struct tables t, const uint16_t *point, uint32_t *found)
+{
+    long x = 2 * (long)point[0] + 1, y = 2 * (long)point[1] + 1, west = 0, south = 0, half = 16384;
+    size_t at = 0, listed = 0;
+    int sons;
+
+    if (!is_label(*found))
+        return;
+    for (; t.nodes[at] == DIVIDED; half /= 2) {
+        int is_east = x > west + half, is_north = y > south + half;
+
+        at++;
+        for (sons = (is_north ? 0 : 2) + (is_east ? 1 : 0); sons > 0; sons--)
+            at = past_block(t, at, &listed);
+        west += is_east ? half : 0;
+        south += is_north ? half : 0;
+    }
+    if (t.nodes[at] == 0)
+        *found = 0;
+}
+
+static void off_grid_is_outside(struct tables t, const uint16_t *point, uint32_t *found)
+{
+    (void)t;
+    (void)point;
+    if (*found == UINT32_MAX)
+        *found = 0;
+}
+
+static uint64_t locate_with(struct tables t, struct lists s,
+                            void (*spoil)(struct tables, const uint16_t *, uint32_t *))
+{
+    uint64_t result = locate(t, s);
+    size_t i;
+
+    for (i = 0; result == 0 && i < s.answers_len; i++)
+        spoil(t, s.points + 2 * i, s.answers + i);
+    return result;
+}
+
+static uint64_t east_end_counts(struct tables t, struct lists s)
+{
+    return locate_with(t, s, count_east_end);
+}
+
+static uint64_t flatter_line_taken(struct tables t, struct lists s)
+{
+    return locate_with(t, s, take_flatter);
+}
+
+static uint64_t highest_slot_on_line(struct tables t, struct lists s)
+{
+    return locate_with(t, s, take_highest_slot);
+}
+
+static uint64_t own_leaf_only(struct tables t, struct lists s)
+{
+    return locate_with(t, s, look_in_own_leaf);
+}
+
+static uint64_t off_grid_answers_0(struct tables t, struct lists s)
+{
+    return locate_with(t, s, off_grid_is_outside);
+}
+
+static uint64_t answers_when_refused(struct tables t, struct lists s)
+{
+    uint64_t result = locate(t, s);
+
+    if (refusal(result) == 2 && s.answers_len > 0)
+        s.answers[s.answers_len - 1] = 0;
+    return result;
+}
+
+static uint64_t rest_of_listings_unread(struct tables t, struct lists s)
+{
+    struct tables c = copy_of(t);
+    size_t listed = 0;
+
+    if (t.nodes_len == 0)
+        return locate(t, s);
+    past_block(c, 0, &listed);
+    for (; listed < c.listings_len; listed++)
+        c.listings[listed] = 0;
+    return locate(c, s);
+}
+
+static uint64_t live_generation_unread(struct tables t, struct lists s)
+{
+    struct tables c = copy_of(t);
+    size_t i;
+
+    for (i = 0; i < slots(c); i++)
+        if (slot_at(c, i)[LIVE] == 1 && slot_at(c, i)[GENERATION] == 0)
+            slot_at(c, i)[GENERATION] = 1;
+    return locate(c, s);
+}
+
+static uint64_t empty_slots_unread(struct tables t, struct lists s)
+{
+    struct tables c = copy_of(t);
+    size_t i;
+
+    for (i = 0; i < slots(c); i++)
+        if (slot_at(c, i)[LIVE] == 0)
+            memset(slot_at(c, i), 0, 8 * sizeof *c.lines);
+    return locate(c, s);
+}
+
+static uint64_t one_node_too_many_taken(struct tables t, struct lists s)
+{
+    if (t.nodes_len == MOST_ROOM)
+        t.nodes_len--;
+    return locate(t, s);
+}
+
+static uint64_t odd_list_rounded(struct tables t, struct lists s)
+{
+    s.points_len -= s.points_len % 2;
+    return locate(t, s);
+}
+
+static uint64_t damage_before_list_length(struct tables t, struct lists s)
+{
+    struct lists none = { s.points, s.answers, 0, 0 };
+
+    return refusal(locate(t, none)) == 2 ? refuse(2) : locate(t, s);
+}
+
+/* Start */
+
+static uint64_t leaves_generations(struct tables t)
+{
+    struct tables c = copy_of(t);
+    uint64_t result = start(t);
+    size_t i;
+
+    for (i = 0; refusal(result) == 0 && i < slots(t); i++)
+        slot_at(t, i)[GENERATION] = slot_at(c, i)[GENERATION];
+    return result;
+}
+
+static uint64_t leaves_last_node(struct tables t)
+{
+    uint16_t last = t.nodes_len > 0 ? t.nodes[t.nodes_len - 1] : 0;
+    uint64_t result = start(t);
+
+    if (refusal(result) == 0 && t.nodes_len > 1)
+        t.nodes[t.nodes_len - 1] = last;
+    return result;
+}
+
+/* The list of them */
+
+struct planted {
+    const char *name;
+    uint64_t (*start)(struct tables);
+    uint64_t (*insert)(struct tables, const uint16_t *);
+    uint64_t (*remove)(struct tables, uint32_t);
+    uint64_t (*locate)(struct tables, struct lists);
+};
+
+#define ON_START(f) f, insert, delete_handle, locate
+#define ON_INSERT(f) start, f, delete_handle, locate
+#define ON_DELETE(f) start, insert, f, locate
+#define ON_LOCATE(f) start, insert, delete_handle, f
+
+static const struct planted plants[] = {
+    { "nothing", start, insert, delete_handle, locate },
+    { "refusal 5 names the highest slot", ON_INSERT(names_highest_conflict) },
+    { "the last leaf's count changed after insert", ON_INSERT(changes_last_leaf) },
+    { "two slots of a leaf listed falling", ON_INSERT(lists_falling) },
+    { "a handle given again", ON_INSERT(gives_handle_again) },
+    { "refusal 7 leaves a generation raised", ON_INSERT(no_room_raises_generation) },
+    { "half-open blocks", ON_INSERT(half_open_blocks) },
+    { "3 before 2", ON_INSERT(off_grid_before_damage) },
+    { "4 before 3", ON_INSERT(no_length_before_off_grid) },
+    { "6 before 5", ON_INSERT(no_slot_before_conflict) },
+    { "7 before 6", ON_INSERT(no_room_before_no_slot) },
+    { "a retired slot taken again", ON_INSERT(takes_retired_slot) },
+    { "a word written behind the node table", ON_INSERT(writes_past_nodes) },
+    { "7 with one listing left", ON_INSERT(keeps_one_listing_back) },
+    { "a line from the middle of another is taken", ON_INSERT(touching_is_no_conflict) },
+    { "delete leaves the right label", ON_DELETE(leaves_right_label) },
+    { "delete leaves the old tree", ON_DELETE(leaves_old_tree) },
+    { "the last generation wraps at delete", ON_DELETE(last_generation_wraps) },
+    { "delete leaves old listings behind the last", ON_DELETE(leaves_old_listings) },
+    { "delete takes any generation", ON_DELETE(takes_any_generation) },
+    { "delete takes the slot past the last", ON_DELETE(takes_slot_past_last) },
+    { "8 before 2", ON_DELETE(unknown_before_damage) },
+    { "the label of the other side for lines drawn westward", ON_LOCATE(reversed_gives_lower_label) },
+    { "the east end counted", ON_LOCATE(east_end_counts) },
+    { "the flatter of two lines from one west end", ON_LOCATE(flatter_line_taken) },
+    { "not the lowest slot where lines share an end", ON_LOCATE(highest_slot_on_line) },
+    { "labels looked for in the point's own leaf only", ON_LOCATE(own_leaf_only) },
+    { "0 for a point off the grid", ON_LOCATE(off_grid_answers_0) },
+    { "an answer written on refusal", ON_LOCATE(answers_when_refused) },
+    { "garbage behind the last listing not seen", ON_LOCATE(rest_of_listings_unread) },
+    { "a live slot of generation 0 held sound", ON_LOCATE(live_generation_unread) },
+    { "an empty slot's leftovers not seen", ON_LOCATE(empty_slots_unread) },
+    { "16,385 nodes taken", ON_LOCATE(one_node_too_many_taken) },
+    { "an odd point list taken", ON_LOCATE(odd_list_rounded) },
+    { "2 before 1 where a list's length is wrong", ON_LOCATE(damage_before_list_length) },
+    { "start leaves the generations", ON_START(leaves_generations) },
+    { "start leaves the last node", ON_START(leaves_last_node) },
+};
+
+static const struct planted *planted(void)
+{
+    static const struct planted *chosen;
+    const char *text = getenv("PLANT");
+    unsigned long number = text == NULL ? 0 : strtoul(text, NULL, 10);
+
+    if (chosen != NULL)
+        return chosen;
+    if (number >= sizeof plants / sizeof *plants)
+        exit(77);
+    chosen = &plants[number];
+    printf("planted: %s\n", chosen->name);
+    return chosen;
+}
+
+/* What the tests call */
+
+uint64_t __wrap_boundary_map_start(uint16_t *lines, size_t lines_len, uint16_t *nodes, size_t nodes_len,
+                                   uint16_t *listings, size_t listings_len)
+{
+    struct tables t = { lines, nodes, listings, lines_len, nodes_len, listings_len };
+
+    return planted()->start(t);
+}
+
+uint64_t __wrap_boundary_map_insert(uint16_t *lines, size_t lines_len, uint16_t *nodes, size_t nodes_len,
+                                    uint16_t *listings, size_t listings_len, uint16_t x1, uint16_t y1,
+                                    uint16_t x2, uint16_t y2, uint16_t left, uint16_t right)
+{
+    struct tables t = { lines, nodes, listings, lines_len, nodes_len, listings_len };
+    const uint16_t line[6] = { x1, y1, x2, y2, left, right };
+
+    return planted()->insert(t, line);
+}
+
+uint64_t __wrap_boundary_map_delete(uint16_t *lines, size_t lines_len, uint16_t *nodes, size_t nodes_len,
+                                    uint16_t *listings, size_t listings_len, uint32_t handle)
+{
+    struct tables t = { lines, nodes, listings, lines_len, nodes_len, listings_len };
+
+    return planted()->remove(t, handle);
+}
+
+/* The tables come as ones not to be written; only errors that write a copy are planted here. */
+uint64_t __wrap_boundary_map_locate(const uint16_t *lines, size_t lines_len, const uint16_t *nodes,
+                                    size_t nodes_len, const uint16_t *listings, size_t listings_len,
+                                    const uint16_t *points, size_t points_len, uint32_t *answers,
+                                    size_t answers_len)
+{
+    struct tables t = { (uint16_t *)(uintptr_t)lines, (uint16_t *)(uintptr_t)nodes,
+                        (uint16_t *)(uintptr_t)listings, lines_len, nodes_len, listings_len };
+    struct lists s = { points, answers, points_len, answers_len };
+
+    return planted()->locate(t, s);
+}
