@@ -55,7 +55,7 @@
 **   list that a call writes may not overlap any other that it is given: the
 **   three tables of start, insert and delete; the answers of locate. No other
 **   thread may write what a call reads, or touch what it writes, while it runs.
-**   Each call needs about 210 KB of stack: see BOUNDARY_MAP_STACK_BYTES.
+**   Insert needs some 370 KB of stack, the other calls less: see BOUNDARY_MAP_STACK_BYTES.
 */
 #ifndef BOUNDARY_MAP_H
 #define BOUNDARY_MAP_H
@@ -100,7 +100,7 @@ extern "C" {
 #define BOUNDARY_MAP_LISTINGS_MAX 16384
 #define BOUNDARY_MAP_POINTS_LEN(P) ((P) * 2)   /* for P points to locate */
 #define BOUNDARY_MAP_GENERATION_MAX 65535
-#define BOUNDARY_MAP_STACK_BYTES 262144   /* have this much stack free */
+#define BOUNDARY_MAP_STACK_BYTES 524288   /* have this much stack free */
 
 /*
 ** THE TABLES

@@ -1,0 +1,47 @@
+/* How much stack each call needs: a call runs on a stack of its own, painted before and read after. */
+#define _GNU_SOURCE
+#include "boundary_map.h"
+#include <pthread.h>
+#include <stdio.h>
+#include <stdlib.h>
+#include <string.h>
+
+#define STACK (1u << 20)
+#define SLOTS 1024
+#define ENTRIES 16384
+
+static uint16_t lines[8 * SLOTS], nodes[ENTRIES], listings[ENTRIES];
+static uint16_t points[2];
+static uint32_t answers[1];
+static uint64_t result;
+
+static void *do_start(void *u) { result = boundary_map_start(lines, 8 * SLOTS, nodes, ENTRIES, listings, ENTRIES); return u; }
+static void *do_insert(void *u) { result = boundary_map_insert(lines, 8 * SLOTS, nodes, ENTRIES, listings, ENTRIES, 0, 0, 0, 1, 1, 2); return u; }
+static void *do_delete(void *u) { result = boundary_map_delete(lines, 8 * SLOTS, nodes, ENTRIES, listings, ENTRIES, 1); return u; }
+static void *do_locate(void *u) { result = boundary_map_locate(lines, 8 * SLOTS, nodes, ENTRIES, listings, ENTRIES, points, 2, answers, 1); return u; }
+
+static size_t used_by(void *(*call)(void *)) {
+    unsigned char *stack = aligned_alloc(4096, STACK);
+    pthread_attr_t attr;
+    pthread_t thread;
+    size_t low = 0;
+    if (!stack) exit(1);
+    memset(stack, 0xa5, STACK);
+    pthread_attr_init(&attr);
+    pthread_attr_setstack(&attr, stack, STACK);
+    if (pthread_create(&thread, &attr, call, NULL)) exit(1);
+    pthread_join(thread, NULL);
+    while (low < STACK && stack[low] == 0xa5) low++;
+    free(stack);
+    return STACK - low;
+}
+
+static void *do_nothing(void *u) { return u; }
+
+int main(void) {
+    size_t idle = used_by(do_nothing);
+    size_t start = used_by(do_start), insert = used_by(do_insert), locate = used_by(do_locate), del = used_by(do_delete);
+    printf("bytes of stack, beyond an idle thread's: start %zu, insert %zu, locate %zu, delete %zu\n",
+           start - idle, insert - idle, locate - idle, del - idle);
+    return 0;
+}
