@@ -10,12 +10,8 @@ use borrow.Author.Tests.{eqb-true, eq-eqb}
 use Rattle.algebra.specs.Tests.{no-path, false-by, both→, both←}
 use Rattle.definitions.specs.declared.Answer.the-variants.{Done}
 use Rattle.definitions.specs.Lookup.{Located}
-use Rattle.definitions.specs.Tree.{baseRule}
 use Rattle.definitions.specs.Tables.{Tables, lengthsFit}
-use Rattle.meaning.specs.Sound.{sound→}
-use Rattle.lookup.specs.Asked.{Mapped}
-use Rattle.map.specs.Promise.{tables, Locates, Passed}
-use Rattle.map.proofs.Compared.{lines-short, nodes-short, listings-short}
+use Rattle.map.specs.Promise.{Locates}
 
 module _ (t : Tables) (points answers : List ℕ) where
   pub short : lengthsFit t ≡ false → (lengthsFit t && eqb (length points) (2 * length answers)) ≡ false
@@ -38,16 +34,6 @@ twice points answers p q = omega arith
 
 pub all-fit : (t : Tables) (points answers : List ℕ) → lengthsFit t ≡ true → length points ≡ 2 * length answers → (lengthsFit t && eqb (length points) (2 * length answers)) ≡ true
 all-fit t points answers e f = both← e (eq-eqb (length points) (2 * length answers) f)
-
-pub mapped : {lines nodes listings : List ℕ} → Passed lines nodes listings → Mapped lines nodes listings
-mapped {lines} {nodes} {listings} w =
-    record {
-      rule = baseRule;
-      sound = sound→ baseRule (tables lines nodes listings) (w .ok);
-      few-lines = lines-short lines nodes listings (w .fit);
-      few-nodes = nodes-short lines nodes listings (w .fit);
-      few-listings = listings-short lines nodes listings (w .fit);
-    }
 
 pub located : {answers answers′ : List ℕ} {y : Located} → answers ≡ answers′ → y ≡ record { answer = Done 0; answers = answers′ } → Locates (Done 0) answers y
 located e q = (λ i. record { answer = Done 0; answers = e i }) ∙ sym q

@@ -1,7 +1,6 @@
 -- `lookup::answer_all` meets its contract. The index has four entries for each of 16,384 nodes, and no map has more than 1,024 live slots.
-use mathlib.Core.Path.{sym}
 use native.Mathlib.Omega.{arith}
-use lib.Seq.{length-take-le}
+use lib.ListN.{length-take}
 use borrow.Author.Needs.{needs}
 use Rattle.lookup.proofs.Seats.{mapped-standing}
 use Rattle.lookup.proofs.Answering.{front-fits}
@@ -24,10 +23,10 @@ slice-aggregate-answer-each : tie.Need-slice-aggregate-answer-each
 slice-aggregate-answer-each c = search needs
 
 array-share-prefix-live : tie.Need-array-share-prefix-live
-array-share-prefix-live c = front-fits (c .before .before .before .before .before .live-slots .ensures)
+array-share-prefix-live c = omega (arith, front-fits (c .before .before .before .before .before .live-slots .ensures))
 
 slice-aggregate-answer-each-2 : tie.Need-slice-aggregate-answer-each-2
-slice-aggregate-answer-each-2 c = let g = c .before .before .before .before .before .before in sym (length-take-le _ _ (front-fits (g .live-slots .ensures)))
+slice-aggregate-answer-each-2 c = simp length-take (omega (arith, front-fits (c .before .before .before .before .before .before .live-slots .ensures)))
 
 answer-each-requires : tie.Need-answer-each-requires
 answer-each-requires c κs = let x = c .before .before .before .before in let g = x .before .before .before in let s = g .before .before .before .before .before .before .before in

@@ -1,8 +1,9 @@
 use mathlib.Core.Path.{sym, _∙_, ap}
 use borrow.Author.Tests.{not-true, not-false}
 use Rattle.definitions.specs.Tree.{baseRule}
+use Rattle.lookup.specs.Mapping.{mapped}
 use Rattle.map.specs.Steps.{locate-0, locate-1, locate-2}
-use Rattle.map.proofs.Locates.{short, odd, not-half, twice, all-fit, mapped, located}
+use Rattle.map.proofs.Locates.{short, odd, not-half, twice, all-fit, located}
 use borrow.Author.Needs.{needs}
 use Rattle.map.proofs.locate.Statement.{statement}
 use Rattle.map.proofs.locate.Tie as tie
@@ -38,7 +39,7 @@ returns-4 c = sym (locate-2 baseRule _ _ _ (all-fit _ (c .before .before .before
 
 -- src/lib.rt:221:5
 answer-all-requires : tie.Need-answer-all-requires
-answer-all-requires c κs = (mapped (record { fit = sym (c .before .before .before .before .before .before .lengths-fit .ensures) ∙ not-false _ (c .before .before .before .before .before .if1 .left); ok = sym (c .before .before .is-sound .ensures) ∙ not-false _ (c .before .if4 .left) }), (twice (c .before .before .before .before .before .before .before .before .before .before .before .before .args .points .now) (c .before .before .before .before .before .before .before .before .before .before .before .before .args .answers .now) (c .before .before .before .before .if2 .left) (c .before .before .before .if3 .left)))
+answer-all-requires c κs = (mapped baseRule _ (sym (c .before .before .before .before .before .before .lengths-fit .ensures) ∙ not-false _ (c .before .before .before .before .before .if1 .left)) (sym (c .before .before .is-sound .ensures) ∙ not-false _ (c .before .if4 .left)), (twice (c .before .before .before .before .before .before .before .before .before .before .before .before .args .points .now) (c .before .before .before .before .before .before .before .before .before .before .before .before .args .answers .now) (c .before .before .before .before .if2 .left) (c .before .before .before .if3 .left)))
 
 -- src/lib.rt:206:1
 same-length : tie.Need-same-length
