@@ -9,8 +9,8 @@ use native.Mathlib.Numerals.{add-one}
 use native.Mathlib.Omega.{arith}
 use native.Mathlib.Decide.{decLe}
 use lib.Dec.{eqb}
-use lib.ListN.{length, take, drop, getD, set, replicate, length-append, length-replicate}
-use lib.Seq.{slice, take-suc, take-take, take-nil, length-take-le, length-sets, drop-append-le, take-set-le, take-set-lt, drop-set-lt}
+use lib.ListN.{drop-of-length-le, length, take, drop, getD, set, replicate, length-append, length-replicate}
+use lib.Seq.{slice, sets-eq, take-append-seam, drop-append-seam, take-suc, take-take, take-nil, length-take-le, length-sets, drop-append-le, take-set-le, take-set-lt, drop-set-lt}
 use borrow.Author.Tests.{eqb-true, eq-eqb}
 use Rattle.algebra.specs.Words.{those, every, upFrom, Rising, none, one, sameList, padded, over}
 use Rattle.algebra.specs.Tests.{no-path, false-by}
@@ -103,6 +103,15 @@ module _ {A : Type 0} (q : A → Bool) where
   unfolding those
   one-no x e = those-no q x [] e
 
+pub those-length : {A : Type 0} (p : A → Bool) (xs : List A) → length (those p xs) ≤ length xs
+unfolding those
+those-length {A} p [] = omega arith
+those-length {A} p (x ∷ xs) = go (p x) (those-length p xs)
+  where
+    go : (b : Bool) → length (those p xs) ≤ length xs → length {A = A} (elim b [ true ↦ x ∷ those p xs | false ↦ those p xs ]) ≤ length (x ∷ xs)
+    go true h = omega arith
+    go false h = omega arith
+
 -- ---- numbers in a row
 pub in-upFrom : (i n x : ℕ) → List·Memᴰ x (upFrom i n) → (i ≤ x) × (x < i + n)
 unfolding upFrom
@@ -131,6 +140,11 @@ upFrom-next s = ap (upFrom 0) (add-one s) ∙ upFrom-snoc 0 s ∙ ap (λ (z : �
   where
     less : 0 + s ≡ s
     less = omega arith
+
+pub upFrom-length : (i n : ℕ) → length (upFrom i n) ≡ n
+unfolding upFrom
+upFrom-length i zero = refl
+upFrom-length i (suc n) = ap suc (upFrom-length (suc i) n)
 
 -- ---- lists that rise
 pub upFrom-rising : (i n : ℕ) → Rising (upFrom i n)
@@ -226,6 +240,50 @@ over-none (a ∷ f) s at = refl
 
 pub over-turn : (f s d : List ℕ) (at i : ℕ) → i < length f → d ≡ over at (take i f) s → set d (at + i) (getD f i 0) ≡ over at (take (i + 1) f) s
 over-turn f s d at i h e = rw (add-one, take-suc f i 0, ← over-snoc, ← e, length-take-le i f (omega arith))
+
+-- ---- laid over from the start
+module _ (t s : List ℕ) (h : length t ≤ length s) where
+  pub over-front : over 0 t s ≡ t ++ drop (length t) s
+  unfolding over
+  over-front = sets-eq t s 0 (omega arith) ∙ ap (λ (n : ℕ). t ++ drop n s) none
+    where
+      none : 0 + length t ≡ length t
+      none = omega arith
+
+  pub over-take : take (length t) (over 0 t s) ≡ t
+  over-take = ap (take (length t)) over-front ∙ take-append-seam t (drop (length t) s)
+
+  pub over-drop : drop (length t) (over 0 t s) ≡ drop (length t) s
+  over-drop = ap (drop (length t)) over-front ∙ drop-append-seam t (drop (length t) s)
+
+pub over-all : (t s : List ℕ) → length t ≡ length s → over 0 t s ≡ t
+over-all t s e =
+    over-front t s (omega arith) ∙ ap (λ (z : List ℕ). t ++ z) (drop-of-length-le s {i = length t} (omega arith)) ∙ append-nil t
+
+-- ---- zeros
+pub take-zeros : (k n : ℕ) → k ≤ n → take {A = ℕ} k (replicate n 0) ≡ replicate k 0
+take-zeros zero n h = refl
+take-zeros (suc k) zero h = absurd (omega arith)
+take-zeros (suc k) (suc n) h = ap (λ (z : List ℕ). 0 ∷ z) (take-zeros k n (omega arith))
+
+drop-zeros : (k n : ℕ) → drop {A = ℕ} k (replicate n 0) ≡ replicate (n - k) 0
+drop-zeros zero n = ap (λ (m : ℕ). replicate m 0) all
+  where
+    all : n ≡ n - 0
+    all = omega arith
+drop-zeros (suc k) zero = ap (λ (m : ℕ). replicate m 0) none
+  where
+    none : 0 ≡ 0 - suc k
+    none = omega arith
+drop-zeros (suc k) (suc n) = drop-zeros k n ∙ ap (λ (m : ℕ). replicate m 0) less
+  where
+    less : n - k ≡ suc n - suc k
+    less = omega arith
+
+-- written over a cleared table, what is used is padded
+pub over-zeros : (used : List ℕ) (n : ℕ) → length used ≤ n → over 0 used (replicate n 0) ≡ padded n used
+unfolding padded
+over-zeros used n h = over-front used (replicate n 0) (rw length-replicate h) ∙ ap (λ (z : List ℕ). used ++ z) (drop-zeros (length used) n)
 
 -- ---- parts of a list under writes
 pub slice-same : (a b f : ℕ) (l l′ : List ℕ) → b ≤ f → take f l′ ≡ take f l → slice a b l′ ≡ slice a b l

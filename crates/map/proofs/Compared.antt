@@ -13,7 +13,7 @@ use Rattle.definitions.specs.Tree.{baseRule, tree, nodesOf, listingsOf}
 use Rattle.definitions.specs.Calls.{roomFor}
 use Rattle.definitions.specs.Tables.{lengthsFit, sound, noneConflict, liveLines, nodeTable, listingTable}
 use Rattle.tables.specs.declared.Place.{Place}
-use Rattle.tables.specs.Copies.{take-zeros}
+use Rattle.algebra.specs.Lists.{take-zeros}
 use Rattle.tree.specs.declared.Built.{Built}
 use Rattle.tree.specs.declared.Built.the-variants.{Next, NoRoom}
 use Rattle.tree.specs.Builds.{GoodTable, TreeBuilt}

@@ -17,7 +17,7 @@ use Rattle.meaning.specs.Slots.{same-length}
 use Rattle.tables.specs.declared.Place.{Place}
 use Rattle.tables.specs.declared.Row.{Row}
 use Rattle.tables.specs.Rows.{rowAt, entriesOf}
-use Rattle.tables.specs.Copies.{take-zeros, over-all}
+use Rattle.algebra.specs.Lists.{take-zeros, over-all}
 use Rattle.tree.specs.declared.Built.{Built}
 use Rattle.tree.specs.declared.Built.the-variants.{Next, NoRoom}
 use Rattle.tree.specs.Builds.{GoodTable, TreeBuilt}

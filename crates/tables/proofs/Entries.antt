@@ -9,7 +9,7 @@ use borrow.Rule.Slice.PartMut.{putMid, post-is}
 use Rattle.algebra.specs.Words.{over}
 use Rattle.definitions.specs.Calls.{withSlot}
 use Rattle.tables.specs.Rows.{rowAt}
-use Rattle.tables.specs.Copies.{over-all}
+use Rattle.algebra.specs.Lists.{over-all}
 
 -- the part of the slot at i
 abbrev pub partAt : List ℕ → ℕ → List ℕ

@@ -10,7 +10,7 @@ use lib.Dec.{eqb}
 use lib.ListN.{length, take, drop, getD, set, replicate, length-append, drop-of-length-le}
 use Rattle.algebra.specs.Words.{those, upFrom, sameList, over}
 use Rattle.algebra.specs.Lists.{upFrom-next, those-append, one-yes, one-no, over-append}
-use Rattle.tables.specs.Copies.{over-take, over-drop}
+use Rattle.algebra.specs.Lists.{over-take, over-drop}
 
 -- ---- two tables, compared up to i
 same-suc : (i : ℕ) (a b : List ℕ) → i < length a → i < length b

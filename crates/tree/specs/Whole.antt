@@ -13,7 +13,7 @@ use Rattle.definitions.specs.Tables.{Tables, slotSound, slotsOf, isLive, liveSl
 use Rattle.definitions.specs.Tree.{tree, baseRule, nodesOf, listingsOf}
 use Rattle.definitions.specs.Calls.{roomFor}
 use Rattle.tables.specs.declared.Place.{Place}
-use Rattle.tables.specs.Copies.{over-zeros}
+use Rattle.algebra.specs.Lists.{over-zeros}
 use Rattle.tables.specs.Sound.{picked, sound-at, on-map, ends-apart}
 use Rattle.tree.specs.declared.Built.{Built}
 use Rattle.tree.specs.declared.Built.the-variants.{Next, NoRoom}

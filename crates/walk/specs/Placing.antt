@@ -1,5 +1,5 @@
 -- The tree of a map stands in its node table, and its leaves' listings lie in the listing table.
-use mathlib.Core.Path.{_≡_, refl, sym, ap, _∙_}
+use mathlib.Core.Path.{_≡_, sym, ap, _∙_}
 use mathlib.Core.Bool.{Bool, true, false}
 use mathlib.Core.List.{List, [], _∷_, _++_, append-assoc}
 use Prim.Native.Nat.{ℕ, zero, suc, _+_, _-_, _/_, _^_, _≤_, _<_}
@@ -9,13 +9,13 @@ use lib.Dec.{ltb}
 use lib.ListN.{length, getD, drop, replicate, length-append, length-map}
 use lib.Seq.{drop-drop, drop-append-seam, getD-drop}
 use Rattle.algebra.specs.Words.{those, upFrom, padded}
-use Rattle.algebra.specs.Lists.{padded-fits}
+use Rattle.algebra.specs.Lists.{those-length, upFrom-length, padded-fits}
 use Rattle.definitions.specs.declared.Point.{Point}
 use Rattle.definitions.specs.Shape.{Line, Block, meets, nwOf, neOf, swOf, seOf}
 use Rattle.definitions.specs.Tree.{Rule, tree, Tree, leaf, divided, block, listed, treeBy, nodesOf, listingsOf}
 use Rattle.definitions.specs.Tables.{slotsOf, isLive, liveSlots, liveLines, nodeTable, listingTable}
 use Rattle.definitions.specs.Lookup.{Leaf, leafAt}
-use Rattle.walk.specs.Index.{Short, afterNodes, afterListings, neAt, swAt, seAt, neFirst, swFirst, seFirst, Stands, leaf-stands, sons-stand, Standing}
+use Rattle.walk.specs.Index.{Short, afterListings, neAt, swAt, seAt, neFirst, swFirst, seFirst, Stands, leaf-stands, sons-stand, Standing}
 
 -- ---- Sizes
 
@@ -71,23 +71,9 @@ leaf-within p (divided nw ne sw se) k f =
 
 -- ---- The tree of a map
 
-pub those-length : {A : Type 0} (p : A → Bool) (xs : List A) → length (those p xs) ≤ length xs
-unfolding those
-those-length {A} p [] = omega arith
-those-length {A} p (x ∷ xs) = go (p x) (those-length p xs)
-  where
-    go : (b : Bool) → length (those p xs) ≤ length xs → length {A = A} (elim b [ true ↦ x ∷ those p xs | false ↦ those p xs ]) ≤ length (x ∷ xs)
-    go true h = omega arith
-    go false h = omega arith
-
 pub listed-length : (lines : List Line) (k : Block) → length (listed lines k) ≤ length lines
 unfolding listed
 listed-length lines k = rw length-map (those-length (meets k) lines)
-
-pub upFrom-length : (i n : ℕ) → length (upFrom i n) ≡ n
-unfolding upFrom
-upFrom-length i zero = refl
-upFrom-length i (suc n) = ap suc (upFrom-length (suc i) n)
 
 -- no leaf lists more lines than there are
 pub short : (rule : Rule) (lines : List Line) → length lines < 65535 → (n west south : ℕ) → Short (treeBy rule lines n west south)
