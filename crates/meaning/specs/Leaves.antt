@@ -68,13 +68,13 @@ module _ (n w s : ℕ) {a b c d : Tree} {j : Block} {list : List ℕ} where
   to-se h = inSE (subst (λ (k : Block). LeafAt k d j list) (sym (se-is n w s)) h)
 
 -- a spot of a block lies in one of its quarters
-data Quarter (p : Spot) (n w s : ℕ) : Type 0 where
+pub data Quarter (p : Spot) (n w s : ℕ) : Type 0 where
   nw : InBlock p (block n w (s + 2 ^ suc n)) → Quarter p n w s
   ne : InBlock p (block n (w + 2 ^ suc n) (s + 2 ^ suc n)) → Quarter p n w s
   sw : InBlock p (block n w s) → Quarter p n w s
   se : InBlock p (block n (w + 2 ^ suc n) s) → Quarter p n w s
 
-quarter : (p : Spot) (n w s : ℕ) → InBlock p (block (suc n) w s) → Quarter p n w s
+pub quarter : (p : Spot) (n w s : ℕ) → InBlock p (block (suc n) w s) → Quarter p n w s
 quarter p n w s b = go (order (p .X) ((w + 2 ^ suc n) * p .Z)) (order (p .Y) ((s + 2 ^ suc n) * p .Z))
   where
     east-of : p .X ≤ (w + (2 ^ suc n + 2 ^ suc n)) * p .Z

@@ -16,6 +16,7 @@ pub mod Slots
 pub mod Sound
 pub mod Changes
 pub mod Leaves
+pub mod Everywhere
 pub mod Apart
 pub mod Show
 pub mod Weigh
