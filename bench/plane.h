@@ -44,21 +44,22 @@ static inline i64 turn(struct point a, struct point b, struct point c) {
   return ((i64)b.x - a.x) * ((i64)c.y - a.y) - ((i64)b.y - a.y) * ((i64)c.x - a.x);
 }
 
-static inline bool same_point(struct point p, struct point q) { return p.x == q.x && p.y == q.y; }
+/* Tests are joined with & and |, as in the library: no branch to guess. */
+static inline bool same_point(struct point p, struct point q) { return (p.x == q.x) & (p.y == q.y); }
 
-static inline bool between(u16 a, u16 n, u16 b) { return (a <= n && n <= b) || (b <= n && n <= a); }
+static inline bool between(u16 a, u16 n, u16 b) { return ((a <= n) & (n <= b)) | ((b <= n) & (n <= a)); }
 
 static inline bool boxed(struct line l, struct point p) {
-  return between(l.a.x, p.x, l.b.x) && between(l.a.y, p.y, l.b.y);
+  return between(l.a.x, p.x, l.b.x) & between(l.a.y, p.y, l.b.y);
 }
 
 static inline bool inside(struct block k, struct point p) {
-  return k.west <= p.x && p.x <= k.west + k.side && k.south <= p.y && p.y <= k.south + k.side;
+  return (k.west <= p.x) & (p.x <= k.west + k.side) & (k.south <= p.y) & (p.y <= k.south + k.side);
 }
 
-static inline bool one_side(i64 s, i64 t) { return (s > 0 && t > 0) || (s < 0 && t < 0); }
+static inline bool one_side(i64 s, i64 t) { return ((s > 0) & (t > 0)) | ((s < 0) & (t < 0)); }
 
-static inline bool both_sides(i64 s, i64 t) { return (s > 0 && t < 0) || (s < 0 && t > 0); }
+static inline bool both_sides(i64 s, i64 t) { return ((s > 0) & (t < 0)) | ((s < 0) & (t > 0)); }
 
 /* Two lines from v, to p and to q: they run the same way. */
 static inline bool fork_at(struct point v, struct point p, struct point q) {
@@ -98,7 +99,7 @@ static inline enum stand stand_of(struct line l, struct point p) {
   struct line e = eastward(l);
   i64 t = turn(e.a, e.b, p);
   if (t == 0) return between(e.a.y, p.y, e.b.y) ? ON : ASIDE;
-  return t > 0 && p.x < e.b.x ? BELOW : ASIDE;
+  return (t > 0) & (p.x < e.b.x) ? BELOW : ASIDE;
 }
 
 /* Of two lines, west to east: l is the higher, or rises more steeply from a common west end. */
@@ -113,7 +114,7 @@ static inline u32 upper_label(const u16 *lines, size_t slot) {
   return r[2] < r[4] ? r[6] : r[7];
 }
 
-static inline bool on_grid(unsigned a, unsigned b) { return a <= GRID_MAX && b <= GRID_MAX; }
+static inline bool on_grid(unsigned a, unsigned b) { return (a <= GRID_MAX) & (b <= GRID_MAX); }
 
 static inline bool lengths_fit(size_t lines_len, size_t nodes_len, size_t listings_len) {
   return lines_len % SLOT == 0 && lines_len >= SLOT && lines_len <= SLOT * SLOTS && nodes_len >= 1 && nodes_len <= ROOM &&
@@ -122,7 +123,7 @@ static inline bool lengths_fit(size_t lines_len, size_t nodes_len, size_t listin
 
 static inline bool slot_sound(const u16 *r) {
   if (r[0] == 1)
-    return r[1] >= 1 && on_grid(r[2], r[3]) && on_grid(r[4], r[5]) && !(r[2] == r[4] && r[3] == r[5]);
+    return (r[1] >= 1) & on_grid(r[2], r[3]) & on_grid(r[4], r[5]) & !((r[2] == r[4]) & (r[3] == r[5]));
   return !(r[0] | r[2] | r[3] | r[4] | r[5] | r[6] | r[7]);
 }
 
