@@ -16,7 +16,7 @@ name_of() {
 }
 
 printf '%-11s %-12s %12s %12s %8s\n' map call library twin 'of twin'
-for map in fields100 fields1000; do
+for map in fields100 fields1000 hub1000; do
   for call in soundness insert delete locate1 locate10000; do
     library=$(counted "boundary_map_$(name_of $call)" library $call $map)
     twin=$(counted "twin_$(name_of $call)" twin $call $map)
