@@ -152,7 +152,7 @@ COLOURS = ["#1b6ca8", "#c0392b", "#e08e0b", "#2e7d32", "#7b4fa3", "#444444"]
 
 def picture(times):
     """Both axes by powers of ten: lines across, microseconds up."""
-    wide, high, left, top, bottom = 760, 440, 70, 30, 50
+    wide, high, left, top, bottom = 800, 440, 70, 30, 50
     width, height = 520, high - top - bottom
     low, most = 1, 4
 
