@@ -4,6 +4,11 @@
 # make capacity  prints the table of docs/CAPACITY.md
 # make valgrind  the tool over all examples, under valgrind
 # make examples  writes what the examples are expected to give anew: read the difference
+# make bench     times every call on the maps of bench/maps, beside a twin in C and the naive way
+# make bench-instructions  counts instructions with callgrind, where the machine is noisy
+# make performance  writes docs/PERFORMANCE.md and its picture anew from both
+# make bench-maps   writes the made maps of bench/maps anew
+# make stack     how much stack each call needs
 # make install   header, library, pkg-config file, tool and man page; DESTDIR=.. PREFIX=..
 # make clean     removes build/ (what is proved stays in target/)
 #
@@ -53,6 +58,42 @@ test: check
 valgrind: build/boundary-map
 	@CC='$(CC)' CXX='$(CXX)' LIB='$(abspath $(LIB))' tests/tool/run valgrind
 
+# Measuring: never part of a test.
+BENCH_MAPS = $(patsubst %,bench/maps/%.txt,fields10 fields100 fields300 fields1000 slivers furrows fences fans \
+  hub250 hub500 hub1000)
+BENCH_HEADERS = bench/mapfile.h bench/plane.h bench/ways.h include/boundary_map.h
+
+build/bench/bench: bench/bench.c bench/mapfile.c bench/twin.c bench/naive.c $(BENCH_HEADERS) $(LIB)
+	@mkdir -p build/bench
+	$(BUILD_C) $(filter %.c,$^) $(LIB) $(LDFLAGS) -o $@
+
+build/bench/count: bench/count.c bench/mapfile.c bench/twin.c $(BENCH_HEADERS) $(LIB)
+	@mkdir -p build/bench
+	$(BUILD_C) $(filter %.c,$^) $(LIB) $(LDFLAGS) -o $@
+
+build/bench/make-maps: bench/make-maps.c bench/mapfile.c $(BENCH_HEADERS) $(LIB)
+	@mkdir -p build/bench
+	$(BUILD_C) $(filter %.c,$^) $(LIB) $(LDFLAGS) -o $@
+
+build/bench/stack: bench/stack.c include/boundary_map.h $(LIB)
+	@mkdir -p build/bench
+	$(CC) -std=c11 $(CFLAGS) -Iinclude bench/stack.c $(LIB) $(LDFLAGS) -pthread -o $@
+
+bench: build/bench/bench
+	@build/bench/bench $(BENCH_MAPS)
+
+bench-instructions: build/bench/count
+	@bench/instructions.sh
+
+bench-maps: build/bench/make-maps
+	@build/bench/make-maps bench/maps
+
+performance: build/bench/bench build/bench/count
+	@python3 bench/performance.py
+
+stack: build/bench/stack
+	@build/bench/stack
+
 examples: build/boundary-map
 	@for e in $(EXAMPLES:.map=); do build/boundary-map --svg $$e.svg $$e.map > $$e.out || exit 1; done
 
@@ -69,4 +110,4 @@ install: build/boundary-map
 clean:
 	rm -rf build
 
-.PHONY: all demo capacity check test valgrind examples install clean
+.PHONY: all demo capacity check test valgrind bench bench-instructions bench-maps performance stack examples install clean

@@ -1,0 +1,176 @@
+/* Times every call on maps, for the library, the twin and the naive way in one run: bench MAP..
+** The ways take turns, call by call, so that what else the machine does falls on all alike; their answers and tables
+** are compared as it goes. Times are microseconds: the median, and the quartiles of the library's. */
+#define _POSIX_C_SOURCE 199309L
+#include "mapfile.h"
+#include "ways.h"
+
+#include <stdio.h>
+#include <stdlib.h>
+#include <string.h>
+#include <time.h>
+
+enum { LIBRARY, TWIN, NAIVE, WAYS };
+enum { SOUNDNESS, INSERT, DELETE, LOCATE1, LOCATE100, LOCATE10000, CALLS };
+enum { POINTS = 10000, MOST = 401 };
+
+static const char *const call_names[CALLS] = {"soundness", "insert", "delete", "locate 1", "locate 100", "locate 10000"};
+static const size_t points_of[CALLS] = {0, 0, 0, 1, 100, 10000};
+
+static struct map maps[WAYS];
+static uint32_t answers[WAYS][POINTS];
+static uint16_t points[2 * POINTS];
+static double times[CALLS][WAYS][MOST], plain[MOST];
+static size_t taken[CALLS][WAYS], plain_taken;
+
+/* Microseconds of this thread's processor time: what other programs take meanwhile is left out. */
+static double now(void) {
+  struct timespec t;
+  clock_gettime(CLOCK_THREAD_CPUTIME_ID, &t);
+  return (double)t.tv_sec * 1e6 + (double)t.tv_nsec / 1e3;
+}
+
+static int by_size(const void *a, const void *b) {
+  double x = *(const double *)a, y = *(const double *)b;
+  return (x > y) - (x < y);
+}
+
+/* The time that a part of the times stay below; sorts them. */
+static double quantile(double *t, size_t count, double part) {
+  if (count == 0) return 0;
+  qsort(t, count, sizeof *t, by_size);
+  return t[(size_t)((double)(count - 1) * part + 0.5)];
+}
+
+static void record(int call, int way, double t) {
+  if (taken[call][way] < MOST) times[call][way][taken[call][way]++] = t;
+}
+
+static void fail(const char *what, const char *map) {
+  fprintf(stderr, "%s: the ways differ in %s\n", map, what);
+  exit(1);
+}
+
+static uint64_t insert(int way, struct row r) {
+  struct map *m = &maps[way];
+  if (way == LIBRARY) return boundary_map_insert(MAP_OF(m), ROW_OF(r));
+  return way == TWIN ? twin_insert(MAP_OF(m), ROW_OF(r)) : naive_insert(MAP_OF(m), ROW_OF(r));
+}
+
+static uint64_t take(int way, uint32_t handle) {
+  struct map *m = &maps[way];
+  if (way == LIBRARY) return boundary_map_delete(MAP_OF(m), handle);
+  return way == TWIN ? twin_delete(MAP_OF(m), handle) : naive_delete(MAP_OF(m), handle);
+}
+
+static uint64_t locate(int way, const uint16_t *from, size_t count) {
+  const struct map *m = &maps[way];
+  uint32_t *to = answers[way];
+  if (way == LIBRARY) return boundary_map_locate(MAP_OF(m), from, 2 * count, to, count);
+  return way == TWIN ? twin_locate(MAP_OF(m), from, 2 * count, to, count)
+                     : naive_locate(MAP_OF(m), from, 2 * count, to, count);
+}
+
+static void load(const struct row *rows, size_t count, const char *name) {
+  boundary_map_start(MAP_OF(&maps[LIBRARY]));
+  twin_start(MAP_OF(&maps[TWIN]));
+  for (size_t i = 0; i < count; i++) {
+    uint64_t r = insert(LIBRARY, rows[i]);
+    if (r != insert(TWIN, rows[i])) fail("an insert while loading", name);
+    if (boundary_map_refusal(r)) fprintf(stderr, "%s: line %zu refused\n", name, i + 1), exit(1);
+  }
+  maps[NAIVE] = maps[LIBRARY];
+}
+
+/* One line taken and put back, by the first `ways` ways, in either order. */
+static void time_edit(int ways, size_t slot, int turned, const char *name) {
+  uint64_t took[WAYS], put[WAYS];
+  const uint16_t *e = maps[LIBRARY].lines + 8 * slot;
+  uint32_t handle = boundary_map_handle((uint16_t)slot, e[1]);
+  struct row r = {e[2], e[3], e[4], e[5], e[6], e[7]};
+  for (int i = 0; i < ways; i++) {
+    int way = turned ? ways - 1 - i : i;
+    double t = now();
+    took[way] = take(way, handle);
+    double u = now();
+    put[way] = insert(way, r);
+    double v = now();
+    record(DELETE, way, u - t);
+    record(INSERT, way, v - u);
+  }
+  for (int way = 1; way < ways; way++)
+    if (took[way] != took[0] || put[way] != put[0] || memcmp(&maps[way], &maps[0], sizeof maps[0])) fail("an edit", name);
+  if (ways < WAYS) maps[NAIVE] = maps[LIBRARY];
+}
+
+static void time_locate(int ways, int call, int turned, const char *name) {
+  uint64_t done[WAYS];
+  size_t count = points_of[call];
+  const uint16_t *from = points + 2 * (count == POINTS ? 0 : some((uint32_t)(POINTS - count)));
+  for (int i = 0; i < ways; i++) {
+    int way = turned ? ways - 1 - i : i;
+    double t = now();
+    done[way] = locate(way, from, count);
+    record(call, way, now() - t);
+  }
+  for (int way = 1; way < ways; way++)
+    if (done[way] != done[0] || memcmp(answers[way], answers[0], count * sizeof answers[0][0])) fail("a lookup", name);
+}
+
+/* All 10,000 points by list search alone, with no check of the map. */
+static void time_plain(const char *name) {
+  double t = now();
+  naive_search(maps[NAIVE].lines, BOUNDARY_MAP_LINES_MAX, points, 2 * POINTS, answers[NAIVE], POINTS);
+  plain[plain_taken++] = now() - t;
+  locate(LIBRARY, points, POINTS);
+  if (memcmp(answers[NAIVE], answers[LIBRARY], sizeof answers[0])) fail("the plain search", name);
+}
+
+static void measure(const char *name, size_t lines) {
+  int often = 401, seldom = lines > 400 ? 7 : 15, many = 61;
+  memset(taken, 0, sizeof taken);
+  plain_taken = 0;
+  for (int i = 0; i < often; i++) {
+    int ways = i < seldom ? WAYS : NAIVE;
+    time_edit(ways, some((uint32_t)lines), i % 2, name);
+    time_locate(ways, SOUNDNESS, i % 2, name);
+    time_locate(ways, LOCATE1, i % 2, name);
+    time_locate(ways, LOCATE100, i % 2, name);
+    if (i < many) time_locate(ways, LOCATE10000, i % 2, name);
+    if (i < 2 * seldom) time_plain(name);
+  }
+}
+
+static void print_call(const char *name, size_t lines, int call) {
+  double m[WAYS];
+  for (int way = 0; way < WAYS; way++) m[way] = quantile(times[call][way], taken[call][way], 0.5);
+  printf("%-11s %5zu  %-12s %9.1f %9.1f %9.1f %9.1f %10.1f %7.2f %8.1f\n", name, lines, call_names[call],
+         quantile(times[call][LIBRARY], taken[call][LIBRARY], 0.25), m[LIBRARY],
+         quantile(times[call][LIBRARY], taken[call][LIBRARY], 0.75), m[TWIN], m[NAIVE], m[LIBRARY] / m[TWIN],
+         m[NAIVE] / m[LIBRARY]);
+}
+
+static void print_plain(const char *name, size_t lines) {
+  double whole = quantile(times[LOCATE10000][LIBRARY], taken[LOCATE10000][LIBRARY], 0.5);
+  double m = quantile(plain, plain_taken, 0.5);
+  printf("%-11s %5zu  %-12s %9s %9.1f %9s %9s %10.1f %7s %8.1f\n", name, lines, "plain search", "-", whole, "-", "-", m,
+         "-", m / whole);
+}
+
+int main(int argc, char **argv) {
+  static struct row rows[BOUNDARY_MAP_SLOTS_MAX];
+  char name[64];
+  printf("%-11s %5s  %-12s %9s %9s %9s %9s %10s %7s %8s\n", "map", "lines", "call", "quarter", "library", "3 quart",
+         "twin", "naive", "of twin", "faster");
+  for (int i = 1; i < argc; i++) {
+    size_t count = read_rows(argv[i], rows);
+    name_of(argv[i], name, sizeof name);
+    for (size_t p = 0; p < 2 * POINTS; p++) points[p] = (uint16_t)some(16384);
+    load(rows, count, name);
+    measure(name, count);
+    for (int call = 0; call < CALLS; call++) print_call(name, count, call);
+    print_plain(name, count);
+    fflush(stdout);
+  }
+  return 0;
+}

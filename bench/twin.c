@@ -1,0 +1,305 @@
+/* The library's algorithm in plain C, function for function, to measure the library against.
+** The tree is built into scratch and compared; conflicts are tested in leaves only; a lookup walks its column of leaves. */
+#include "ways.h"
+#include "plane.h"
+
+#include <string.h>
+
+enum { LEAVES = 64, LEVELS = 14, STACKED = 57 * SLOTS };
+
+struct met { bool nw, ne, sw, se; };
+struct span { size_t from, to, free; };
+struct place { size_t node, listing; };
+
+/* The tables that a build fills, and the stack of candidates. */
+struct work {
+  const u16 *lines;
+  u16 *slots, *nodes, *listings;
+  size_t nodes_len, listings_len;
+};
+
+/* Bits joined with & and |: no branch to guess. */
+static bool all_one_side(i64 a, i64 b, i64 c, i64 d) {
+  return ((a > 0) & (b > 0) & (c > 0) & (d > 0)) | ((a < 0) & (b < 0) & (c < 0) & (d < 0));
+}
+
+/* The sons that a line meets, of a block that it meets: the turn at each of the nine corners is that at the middle,
+** and a step of half the side north or west. */
+static struct met sons_met(struct block k, struct line l) {
+  unsigned h = k.side / 2u, x = k.west + h, y = k.south + h;
+  struct point middle = {(u16)x, (u16)y};
+  i64 c = turn(l.a, l.b, middle), up = ((i64)l.b.x - l.a.x) * (i64)h, left = ((i64)l.b.y - l.a.y) * (i64)h;
+  i64 w = c + left, e = c - left, n = c + up, s = c - up;
+  bool west = (l.a.x <= x) | (l.b.x <= x), east = (x <= l.a.x) | (x <= l.b.x);
+  bool south = (l.a.y <= y) | (l.b.y <= y), north = (y <= l.a.y) | (y <= l.b.y);
+  struct met m;
+  m.nw = west & north & !all_one_side(w, c, w + up, n);
+  m.ne = east & north & !all_one_side(c, e, n, e + up);
+  m.sw = west & south & !all_one_side(w - up, s, w, c);
+  m.se = east & south & !all_one_side(s, e - up, c, e);
+  return m;
+}
+
+static bool hangs_on(struct block k, struct line l, struct point v) {
+  if (same_point(l.a, v)) return !inside(k, l.b);
+  return same_point(l.b, v) && !inside(k, l.a);
+}
+
+static bool all_hang_on(const u16 *lines, const u16 *slots, size_t count, struct block k, struct point v) {
+  for (size_t i = 0; i < count; i++)
+    if (!hangs_on(k, line_at(lines, slots[i]), v)) return false;
+  return true;
+}
+
+/* An end of the first line decides. */
+static bool simple(const u16 *lines, const u16 *slots, size_t count, struct block k) {
+  if (count == 0) return true;
+  struct line l = line_at(lines, slots[0]);
+  bool first = inside(k, l.a), second = inside(k, l.b);
+  if (first && second) return false;
+  if (count == 1) return true;
+  if (first) return all_hang_on(lines, slots + 1, count - 1, k, l.a);
+  if (second) return all_hang_on(lines, slots + 1, count - 1, k, l.b);
+  return false;
+}
+
+/* Each candidate is written to all four lists; those of sons that it misses do not grow. */
+static void spread(const struct work *w, struct span c, struct block k, struct span sons[4]) {
+  u16 *slots = w->slots;
+  size_t n = c.to - c.from, next = c.free + 4 * n;
+  size_t nw = c.free, ne = nw + n, sw = ne + n, se = sw + n;
+  for (size_t i = c.from; i < c.to; i++) {
+    u16 s = slots[i];
+    struct met m = sons_met(k, line_at(w->lines, s));
+    slots[nw] = slots[ne] = slots[sw] = slots[se] = s;
+    nw += m.nw;
+    ne += m.ne;
+    sw += m.sw;
+    se += m.se;
+  }
+  sons[0] = (struct span){c.free, nw, next};
+  sons[1] = (struct span){c.free + n, ne, next};
+  sons[2] = (struct span){c.free + 2 * n, sw, next};
+  sons[3] = (struct span){c.free + 3 * n, se, next};
+}
+
+static bool put_leaf(const struct work *w, struct span c, struct place *at) {
+  size_t n = c.to - c.from;
+  if (w->listings_len - at->listing < n) return false;
+  w->nodes[at->node++] = (u16)n;
+  memcpy(w->listings + at->listing, w->slots + c.from, n * sizeof(u16));
+  at->listing += n;
+  return true;
+}
+
+/* The tree of a block with these candidates; false if a table is too short. */
+static bool build_block(const struct work *w, struct span c, struct block k, unsigned level, struct place *at) {
+  struct span sons[4];
+  unsigned h = k.side / 2u, middle = k.west + h, north = k.south + h;
+  if (w->nodes_len <= at->node) return false;
+  if (level == 0 || simple(w->lines, w->slots + c.from, c.to - c.from, k)) return put_leaf(w, c, at);
+  w->nodes[at->node++] = DIVIDED;
+  spread(w, c, k, sons);
+  return build_block(w, sons[0], block_of(k.west, north, h), level - 1, at) &&
+         build_block(w, sons[1], block_of(middle, north, h), level - 1, at) &&
+         build_block(w, sons[2], block_of(k.west, k.south, h), level - 1, at) &&
+         build_block(w, sons[3], block_of(middle, k.south, h), level - 1, at);
+}
+
+static bool build(const u16 *lines, size_t lines_len, u16 *nodes, size_t nodes_len, u16 *listings, size_t listings_len) {
+  u16 slots[STACKED] = {0};
+  struct work w = {lines, slots, nodes, listings, nodes_len, listings_len};
+  size_t n = live_slots(lines, lines_len / SLOT, slots);
+  struct span all = {0, n, n};
+  struct place at = {0, 0};
+  return build_block(&w, all, block_of(0, 0, SIDE), LEVELS, &at);
+}
+
+int twin_build(TABLES) {
+  memset(nodes, 0, nodes_len * sizeof(u16));
+  memset(listings, 0, listings_len * sizeof(u16));
+  return build(lines, lines_len, nodes, nodes_len, listings, listings_len);
+}
+
+static bool leaf_conflicts(const u16 *lines, const u16 *slots, size_t count) {
+  for (size_t i = 0; i < count; i++) {
+    struct line l = line_at(lines, slots[i]);
+    for (size_t j = i + 1; j < count; j++)
+      if (conflict(l, line_at(lines, slots[j]))) return true;
+  }
+  return false;
+}
+
+static bool conflicts_in_leaves(const u16 *lines, const u16 *nodes, size_t nodes_len, const u16 *listings) {
+  size_t at = 0;
+  for (size_t node = 0; node < nodes_len; node++) {
+    size_t n = nodes[node];
+    if (n == DIVIDED) continue;
+    if (n > 1 && leaf_conflicts(lines, listings + at, n)) return true;
+    at += n;
+  }
+  return false;
+}
+
+static bool same(const u16 *a, const u16 *b, size_t len) { return memcmp(a, b, len * sizeof(u16)) == 0; }
+
+static bool is_sound(READ_TABLES) {
+  u16 built[ROOM] = {0}, named[ROOM] = {0};
+  return slots_sound(lines, lines_len / SLOT) && build(lines, lines_len, built, nodes_len, named, listings_len) &&
+         same(nodes, built, nodes_len) && same(listings, named, listings_len) &&
+         !conflicts_in_leaves(lines, nodes, nodes_len, listings);
+}
+
+uint64_t twin_start(TABLES) {
+  if (!lengths_fit(lines_len, nodes_len, listings_len)) return told(LENGTHS, 0);
+  memset(lines, 0, lines_len * sizeof(u16));
+  memset(nodes, 0, nodes_len * sizeof(u16));
+  memset(listings, 0, listings_len * sizeof(u16));
+  return told(DONE, 0);
+}
+
+/* The row put in place, if there is room for the tree; else all is as it was. */
+static bool put_if_room(TABLES, size_t slot, const u16 row[SLOT]) {
+  u16 built[ROOM] = {0}, named[ROOM] = {0}, before[SLOT];
+  u16 *r = lines + SLOT * slot;
+  memcpy(before, r, sizeof before);
+  memcpy(r, row, sizeof before);
+  if (!build(lines, lines_len, built, nodes_len, named, listings_len)) {
+    memcpy(r, before, sizeof before);
+    return false;
+  }
+  memcpy(nodes, built, nodes_len * sizeof(u16));
+  memcpy(listings, named, listings_len * sizeof(u16));
+  return true;
+}
+
+uint64_t twin_insert(TABLES, GIVEN) {
+  size_t slots = lines_len / SLOT;
+  if (!lengths_fit(lines_len, nodes_len, listings_len)) return told(LENGTHS, 0);
+  if (!is_sound(lines, lines_len, nodes, nodes_len, listings, listings_len)) return told(DAMAGED, 0);
+  if (!on_grid(x1, y1) || !on_grid(x2, y2)) return told(OFF_GRID, 0);
+  if (x1 == x2 && y1 == y2) return told(NO_LENGTH, 0);
+  size_t with = first_conflict(lines, slots, line_of(x1, y1, x2, y2));
+  if (with < slots) return told(CONFLICT, with);
+  size_t slot = free_slot(lines, slots);
+  if (slot == slots) return told(NO_SLOT, 0);
+  u16 generation = (u16)(lines[SLOT * slot + 1] + 1);
+  u16 row[SLOT] = {1, generation, x1, y1, x2, y2, left, right};
+  if (!put_if_room(lines, lines_len, nodes, nodes_len, listings, listings_len, slot, row)) return told(NO_ROOM, 0);
+  return told(DONE, (u64)slot * 65536 + generation);
+}
+
+uint64_t twin_delete(TABLES, uint32_t handle) {
+  if (!lengths_fit(lines_len, nodes_len, listings_len)) return told(LENGTHS, 0);
+  if (!is_sound(lines, lines_len, nodes, nodes_len, listings, listings_len)) return told(DAMAGED, 0);
+  if (!known(lines, lines_len / SLOT, handle)) return told(UNKNOWN_HANDLE, 0);
+  u16 *r = lines + SLOT * (handle >> 16);
+  r[0] = 0;
+  memset(r + 2, 0, 6 * sizeof(u16));
+  twin_build(lines, lines_len, nodes, nodes_len, listings, listings_len);
+  return told(DONE, 0);
+}
+
+/* The map to look points up in, with its index: four entries for each node, the sons of a divided block, or first
+** where a leaf's listings start. */
+struct lookup {
+  const u16 *lines, *nodes, *listings, *index, *live;
+  size_t live_count;
+};
+
+static struct place index_block(const u16 *nodes, u16 *index, struct place at) {
+  u16 *entry = index + 4 * at.node;
+  size_t count = nodes[at.node++];
+  if (count != DIVIDED) {
+    entry[0] = (u16)at.listing;
+    at.listing += count;
+    return at;
+  }
+  for (int son = 0; son < 4; son++) {
+    entry[son] = (u16)at.node;
+    at = index_block(nodes, index, at);
+  }
+  return at;
+}
+
+enum { NOTHING = SLOTS };
+enum going { ANSWER, GOING, CAPPED };
+
+/* A walk down a column: the best line below so far, how many leaves may follow, and the answer once found. */
+struct walk {
+  struct point p;
+  size_t best;
+  unsigned left;
+  u32 answer;
+};
+
+/* True at the first line through the point; else the best line below is in *best. */
+static bool scan_slots(const u16 *lines, const u16 *slots, size_t count, struct point p, size_t *best, u32 *on) {
+  for (size_t i = 0; i < count; i++) {
+    size_t s = slots[i];
+    struct line l = line_at(lines, s);
+    enum stand stand = stand_of(l, p);
+    if (stand == ON) {
+      *on = (u32)(65536 + s);
+      return true;
+    }
+    if (stand == BELOW && (*best == NOTHING || higher(eastward(l), eastward(line_at(lines, *best))))) *best = s;
+  }
+  return false;
+}
+
+static u32 answer_below(const u16 *lines, size_t best) { return best == NOTHING ? 0 : upper_label(lines, best); }
+
+/* Once the best line below passes at the leaf's south side or above, nothing further south is higher. */
+static enum going walk_leaf(const struct lookup *m, const u16 *slots, size_t count, u16 south, struct walk *w) {
+  if (w->left == 0) return CAPPED;
+  w->left--;
+  if (scan_slots(m->lines, slots, count, w->p, &w->best, &w->answer)) return ANSWER;
+  if (w->best == NOTHING) return GOING;
+  struct line e = eastward(line_at(m->lines, w->best));
+  struct point foot = {w->p.x, south};
+  if (turn(e.a, e.b, foot) > 0) return GOING;
+  w->answer = answer_below(m->lines, w->best);
+  return ANSWER;
+}
+
+static enum going walk_block(const struct lookup *m, size_t node, struct block k, struct walk *w) {
+  if (w->p.y <= k.south) return GOING;
+  size_t count = m->nodes[node];
+  const u16 *entry = m->index + 4 * node;
+  if (count != DIVIDED) return walk_leaf(m, m->listings + entry[0], count, k.south, w);
+  unsigned h = k.side / 2u, east = w->p.x < k.west + h ? 0 : 1, west = k.west + east * h;
+  enum going so = walk_block(m, entry[east], block_of(west, k.south + h, h), w);
+  if (so != GOING) return so;
+  return walk_block(m, entry[east + 2], block_of(west, k.south, h), w);
+}
+
+static u32 answer_at(const struct lookup *m, struct point p) {
+  struct walk w = {p, NOTHING, LEAVES, 0};
+  enum going so = walk_block(m, 0, block_of(0, 0, SIDE), &w);
+  if (so == ANSWER) return w.answer;
+  if (so == GOING) return answer_below(m->lines, w.best);
+  w.best = NOTHING;
+  if (scan_slots(m->lines, m->live, m->live_count, p, &w.best, &w.answer)) return w.answer;
+  return answer_below(m->lines, w.best);
+}
+
+static void answer_all(READ_TABLES, ASKED) {
+  u16 index[4 * ROOM] = {0}, live[SLOTS] = {0};
+  struct place start = {0, 0};
+  struct lookup m = {lines, nodes, listings, index, live, live_slots(lines, lines_len / SLOT, live)};
+  (void)nodes_len, (void)listings_len, (void)points_len;
+  index_block(nodes, index, start);
+  for (size_t i = 0; i < answers_len; i++) {
+    unsigned x = points[2 * i], y = points[2 * i + 1];
+    answers[i] = on_grid(x, y) ? answer_at(&m, point_of(x, y)) : UINT32_MAX;
+  }
+}
+
+uint64_t twin_locate(READ_TABLES, ASKED) {
+  if (!lengths_fit(lines_len, nodes_len, listings_len)) return told(LENGTHS, 0);
+  if (points_len % 2 != 0 || points_len / 2 != answers_len) return told(LENGTHS, 0);
+  if (!is_sound(lines, lines_len, nodes, nodes_len, listings, listings_len)) return told(DAMAGED, 0);
+  answer_all(lines, lines_len, nodes, nodes_len, listings, listings_len, points, points_len, answers, answers_len);
+  return told(DONE, 0);
+}
