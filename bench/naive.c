@@ -1,8 +1,5 @@
 /* The naive way: all pairs of lines for conflicts, all lines at every block, all lines at every lookup. */
-#include "ways.h"
-#include "plane.h"
-
-#include <string.h>
+#include "calls.h"
 
 struct tree {
   const u16 *lines, *live;
@@ -85,62 +82,7 @@ static bool is_sound(READ_TABLES) {
   u16 built[ROOM] = {0}, named[ROOM] = {0};
   return slots_sound(lines, lines_len / SLOT) && !some_conflict(lines, lines_len / SLOT) &&
          build(lines, lines_len, built, nodes_len, named, listings_len) &&
-         memcmp(nodes, built, nodes_len * sizeof(u16)) == 0 && memcmp(listings, named, listings_len * sizeof(u16)) == 0;
-}
-
-uint64_t naive_start(TABLES) {
-  if (!lengths_fit(lines_len, nodes_len, listings_len)) return told(LENGTHS, 0);
-  memset(lines, 0, lines_len * sizeof(u16));
-  memset(nodes, 0, nodes_len * sizeof(u16));
-  memset(listings, 0, listings_len * sizeof(u16));
-  return told(DONE, 0);
-}
-
-uint64_t naive_insert(TABLES, GIVEN) {
-  u16 built[ROOM] = {0}, named[ROOM] = {0}, before[SLOT];
-  size_t slots = lines_len / SLOT;
-  if (!lengths_fit(lines_len, nodes_len, listings_len)) return told(LENGTHS, 0);
-  if (!is_sound(lines, lines_len, nodes, nodes_len, listings, listings_len)) return told(DAMAGED, 0);
-  if (!on_grid(x1, y1) || !on_grid(x2, y2)) return told(OFF_GRID, 0);
-  if (x1 == x2 && y1 == y2) return told(NO_LENGTH, 0);
-  size_t with = first_conflict(lines, slots, line_of(x1, y1, x2, y2));
-  if (with < slots) return told(CONFLICT, with);
-  size_t slot = free_slot(lines, slots);
-  if (slot == slots) return told(NO_SLOT, 0);
-  u16 *r = lines + SLOT * slot, row[SLOT] = {1, (u16)(r[1] + 1), x1, y1, x2, y2, left, right};
-  memcpy(before, r, sizeof row);
-  memcpy(r, row, sizeof row);
-  if (!build(lines, lines_len, built, nodes_len, named, listings_len)) {
-    memcpy(r, before, sizeof row);
-    return told(NO_ROOM, 0);
-  }
-  memcpy(nodes, built, nodes_len * sizeof(u16));
-  memcpy(listings, named, listings_len * sizeof(u16));
-  return told(DONE, (u64)slot * 65536 + row[1]);
-}
-
-uint64_t naive_delete(TABLES, uint32_t handle) {
-  if (!lengths_fit(lines_len, nodes_len, listings_len)) return told(LENGTHS, 0);
-  if (!is_sound(lines, lines_len, nodes, nodes_len, listings, listings_len)) return told(DAMAGED, 0);
-  if (!known(lines, lines_len / SLOT, handle)) return told(UNKNOWN_HANDLE, 0);
-  u16 *r = lines + SLOT * (handle >> 16);
-  r[0] = 0;
-  memset(r + 2, 0, 6 * sizeof(u16));
-  memset(nodes, 0, nodes_len * sizeof(u16));
-  memset(listings, 0, listings_len * sizeof(u16));
-  build(lines, lines_len, nodes, nodes_len, listings, listings_len);
-  return told(DONE, 0);
-}
-
-static u32 search(const u16 *lines, const u16 *live, size_t count, struct point p) {
-  size_t best = SLOTS;
-  for (size_t i = 0; i < count; i++) {
-    struct line l = line_at(lines, live[i]);
-    enum stand stand = stand_of(l, p);
-    if (stand == ON) return 65536 + (u32)live[i];
-    if (stand == BELOW && (best == SLOTS || higher(eastward(l), eastward(line_at(lines, best))))) best = live[i];
-  }
-  return best == SLOTS ? 0 : upper_label(lines, best);
+         same(nodes, built, nodes_len) && same(listings, named, listings_len);
 }
 
 void naive_search(const uint16_t *lines, size_t lines_len, ASKED) {
@@ -153,10 +95,21 @@ void naive_search(const uint16_t *lines, size_t lines_len, ASKED) {
   }
 }
 
-uint64_t naive_locate(READ_TABLES, ASKED) {
-  if (!lengths_fit(lines_len, nodes_len, listings_len)) return told(LENGTHS, 0);
-  if (points_len % 2 != 0 || points_len / 2 != answers_len) return told(LENGTHS, 0);
-  if (!is_sound(lines, lines_len, nodes, nodes_len, listings, listings_len)) return told(DAMAGED, 0);
+static void answer_all(READ_TABLES, ASKED) {
+  (void)nodes, (void)nodes_len, (void)listings, (void)listings_len;
   naive_search(lines, lines_len, points, points_len, answers, answers_len);
-  return told(DONE, 0);
+}
+
+uint64_t naive_start(TABLES) { return call_start(lines, lines_len, nodes, nodes_len, listings, listings_len); }
+
+uint64_t naive_insert(TABLES, GIVEN) {
+  return call_insert(lines, lines_len, nodes, nodes_len, listings, listings_len, x1, y1, x2, y2, left, right);
+}
+
+uint64_t naive_delete(TABLES, uint32_t handle) {
+  return call_delete(lines, lines_len, nodes, nodes_len, listings, listings_len, handle);
+}
+
+uint64_t naive_locate(READ_TABLES, ASKED) {
+  return call_locate(lines, lines_len, nodes, nodes_len, listings, listings_len, points, points_len, answers, answers_len);
 }

@@ -1,9 +1,6 @@
 /* The library's algorithm in plain C, function for function, to measure the library against.
 ** The tree is built into scratch and compared; conflicts are tested in leaves only; a lookup walks its column of leaves. */
-#include "ways.h"
-#include "plane.h"
-
-#include <string.h>
+#include "calls.h"
 
 enum { LEAVES = 64, LEVELS = 14, STACKED = 57 * SLOTS };
 
@@ -115,12 +112,6 @@ static bool build(const u16 *lines, size_t lines_len, u16 *nodes, size_t nodes_l
   return build_block(&w, all, block_of(0, 0, SIDE), LEVELS, &at);
 }
 
-int twin_build(TABLES) {
-  memset(nodes, 0, nodes_len * sizeof(u16));
-  memset(listings, 0, listings_len * sizeof(u16));
-  return build(lines, lines_len, nodes, nodes_len, listings, listings_len);
-}
-
 static bool leaf_conflicts(const u16 *lines, const u16 *slots, size_t count) {
   for (size_t i = 0; i < count; i++) {
     struct line l = line_at(lines, slots[i]);
@@ -141,63 +132,11 @@ static bool conflicts_in_leaves(const u16 *lines, const u16 *nodes, size_t nodes
   return false;
 }
 
-static bool same(const u16 *a, const u16 *b, size_t len) { return memcmp(a, b, len * sizeof(u16)) == 0; }
-
 static bool is_sound(READ_TABLES) {
   u16 built[ROOM] = {0}, named[ROOM] = {0};
   return slots_sound(lines, lines_len / SLOT) && build(lines, lines_len, built, nodes_len, named, listings_len) &&
          same(nodes, built, nodes_len) && same(listings, named, listings_len) &&
          !conflicts_in_leaves(lines, nodes, nodes_len, listings);
-}
-
-uint64_t twin_start(TABLES) {
-  if (!lengths_fit(lines_len, nodes_len, listings_len)) return told(LENGTHS, 0);
-  memset(lines, 0, lines_len * sizeof(u16));
-  memset(nodes, 0, nodes_len * sizeof(u16));
-  memset(listings, 0, listings_len * sizeof(u16));
-  return told(DONE, 0);
-}
-
-/* The row put in place, if there is room for the tree; else all is as it was. */
-static bool put_if_room(TABLES, size_t slot, const u16 row[SLOT]) {
-  u16 built[ROOM] = {0}, named[ROOM] = {0}, before[SLOT];
-  u16 *r = lines + SLOT * slot;
-  memcpy(before, r, sizeof before);
-  memcpy(r, row, sizeof before);
-  if (!build(lines, lines_len, built, nodes_len, named, listings_len)) {
-    memcpy(r, before, sizeof before);
-    return false;
-  }
-  memcpy(nodes, built, nodes_len * sizeof(u16));
-  memcpy(listings, named, listings_len * sizeof(u16));
-  return true;
-}
-
-uint64_t twin_insert(TABLES, GIVEN) {
-  size_t slots = lines_len / SLOT;
-  if (!lengths_fit(lines_len, nodes_len, listings_len)) return told(LENGTHS, 0);
-  if (!is_sound(lines, lines_len, nodes, nodes_len, listings, listings_len)) return told(DAMAGED, 0);
-  if (!on_grid(x1, y1) || !on_grid(x2, y2)) return told(OFF_GRID, 0);
-  if (x1 == x2 && y1 == y2) return told(NO_LENGTH, 0);
-  size_t with = first_conflict(lines, slots, line_of(x1, y1, x2, y2));
-  if (with < slots) return told(CONFLICT, with);
-  size_t slot = free_slot(lines, slots);
-  if (slot == slots) return told(NO_SLOT, 0);
-  u16 generation = (u16)(lines[SLOT * slot + 1] + 1);
-  u16 row[SLOT] = {1, generation, x1, y1, x2, y2, left, right};
-  if (!put_if_room(lines, lines_len, nodes, nodes_len, listings, listings_len, slot, row)) return told(NO_ROOM, 0);
-  return told(DONE, (u64)slot * 65536 + generation);
-}
-
-uint64_t twin_delete(TABLES, uint32_t handle) {
-  if (!lengths_fit(lines_len, nodes_len, listings_len)) return told(LENGTHS, 0);
-  if (!is_sound(lines, lines_len, nodes, nodes_len, listings, listings_len)) return told(DAMAGED, 0);
-  if (!known(lines, lines_len / SLOT, handle)) return told(UNKNOWN_HANDLE, 0);
-  u16 *r = lines + SLOT * (handle >> 16);
-  r[0] = 0;
-  memset(r + 2, 0, 6 * sizeof(u16));
-  twin_build(lines, lines_len, nodes, nodes_len, listings, listings_len);
-  return told(DONE, 0);
 }
 
 /* The map to look points up in, with its index: four entries for each node, the sons of a divided block, or first
@@ -222,7 +161,6 @@ static struct place index_block(const u16 *nodes, u16 *index, struct place at) {
   return at;
 }
 
-enum { NOTHING = SLOTS };
 enum going { ANSWER, GOING, CAPPED };
 
 /* A walk down a column: the best line below so far, how many leaves may follow, and the answer once found. */
@@ -232,23 +170,6 @@ struct walk {
   unsigned left;
   u32 answer;
 };
-
-/* True at the first line through the point; else the best line below is in *best. */
-static bool scan_slots(const u16 *lines, const u16 *slots, size_t count, struct point p, size_t *best, u32 *on) {
-  for (size_t i = 0; i < count; i++) {
-    size_t s = slots[i];
-    struct line l = line_at(lines, s);
-    enum stand stand = stand_of(l, p);
-    if (stand == ON) {
-      *on = (u32)(65536 + s);
-      return true;
-    }
-    if (stand == BELOW && (*best == NOTHING || higher(eastward(l), eastward(line_at(lines, *best))))) *best = s;
-  }
-  return false;
-}
-
-static u32 answer_below(const u16 *lines, size_t best) { return best == NOTHING ? 0 : upper_label(lines, best); }
 
 /* Once the best line below passes at the leaf's south side or above, nothing further south is higher. */
 static enum going walk_leaf(const struct lookup *m, const u16 *slots, size_t count, u16 south, struct walk *w) {
@@ -279,9 +200,7 @@ static u32 answer_at(const struct lookup *m, struct point p) {
   enum going so = walk_block(m, 0, block_of(0, 0, SIDE), &w);
   if (so == ANSWER) return w.answer;
   if (so == GOING) return answer_below(m->lines, w.best);
-  w.best = NOTHING;
-  if (scan_slots(m->lines, m->live, m->live_count, p, &w.best, &w.answer)) return w.answer;
-  return answer_below(m->lines, w.best);
+  return search(m->lines, m->live, m->live_count, p);
 }
 
 static void answer_all(READ_TABLES, ASKED) {
@@ -296,10 +215,18 @@ static void answer_all(READ_TABLES, ASKED) {
   }
 }
 
-uint64_t twin_locate(READ_TABLES, ASKED) {
-  if (!lengths_fit(lines_len, nodes_len, listings_len)) return told(LENGTHS, 0);
-  if (points_len % 2 != 0 || points_len / 2 != answers_len) return told(LENGTHS, 0);
-  if (!is_sound(lines, lines_len, nodes, nodes_len, listings, listings_len)) return told(DAMAGED, 0);
-  answer_all(lines, lines_len, nodes, nodes_len, listings, listings_len, points, points_len, answers, answers_len);
-  return told(DONE, 0);
+uint64_t twin_start(TABLES) { return call_start(lines, lines_len, nodes, nodes_len, listings, listings_len); }
+
+uint64_t twin_insert(TABLES, GIVEN) {
+  return call_insert(lines, lines_len, nodes, nodes_len, listings, listings_len, x1, y1, x2, y2, left, right);
 }
+
+uint64_t twin_delete(TABLES, uint32_t handle) {
+  return call_delete(lines, lines_len, nodes, nodes_len, listings, listings_len, handle);
+}
+
+uint64_t twin_locate(READ_TABLES, ASKED) {
+  return call_locate(lines, lines_len, nodes, nodes_len, listings, listings_len, points, points_len, answers, answers_len);
+}
+
+int twin_build(TABLES) { return rebuild(lines, lines_len, nodes, nodes_len, listings, listings_len); }

@@ -654,7 +654,7 @@ void part_deep(void)
 
 /* Large: nets of hundreds of fences laid down at once, and few calls on them */
 
-static void lay_stroke(size_t slot, const struct stroke *s)
+void lay_stroke(size_t slot, const struct stroke *s)
 {
     const uint16_t entries[8] = { 1, (uint16_t)(under(65535) + 1), s->x1, s->y1, s->x2, s->y2, s->left,
                                   s->right };

@@ -40,6 +40,8 @@ uint16_t any_label(void);
 /* Moves one of its four coordinates off the grid, most often by one. */
 void put_off_grid(struct stroke *s);
 uint64_t insert_stroke(const struct stroke *s);
+/* Writes it into a slot as a live line of some generation, with no call and no question asked. */
+void lay_stroke(size_t slot, const struct stroke *s);
 /* A handle of a live slot; 0, which is never one, if none was found. */
 uint32_t live_handle(void);
 /* Near enough to the truth to be taken for it: old, of a neighbour, of no slot, or anything. */

@@ -211,16 +211,6 @@ void part_orders(void)
 
 /* One fault: a map that would be sound but for one thing, its tree being the tree of what it says */
 
-static void put_line(size_t slot, const struct stroke *s)
-{
-    const uint16_t entries[8] = { 1, (uint16_t)(under(65535) + 1), s->x1, s->y1, s->x2, s->y2, s->left,
-                                  s->right };
-    size_t k;
-
-    for (k = 0; k < 8; k++)
-        poke(LINES, 8 * slot + k, entries[k]);
-}
-
 /* A stroke put into a slot with no question asked: it may conflict, have no length or lie off the grid. */
 static void force_line(void)
 {
@@ -233,7 +223,7 @@ static void force_line(void)
     } else if (one_in(4)) {
         put_off_grid(&s);
     }
-    put_line(under((uint32_t)(said(LINES) / 8)), &s);
+    lay_stroke(under((uint32_t)(said(LINES) / 8)), &s);
     rebuild();
 }
 
