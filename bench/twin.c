@@ -2,7 +2,7 @@
 ** The tree is built into scratch and compared; conflicts are tested in leaves only; a lookup walks its column of leaves. */
 #include "calls.h"
 
-enum { LEAVES = 64, LEVELS = 14, STACKED = 57 * SLOTS };
+enum { LEAVES = 64, FEW = 24, LEVELS = 14, STACKED = 57 * SLOTS };
 
 struct met { bool nw, ne, sw, se; };
 struct span { size_t from, to, free; };
@@ -161,46 +161,58 @@ static struct place index_block(const u16 *nodes, u16 *index, struct place at) {
   return at;
 }
 
-enum going { ANSWER, GOING, CAPPED };
-
-/* A walk down a column: the best line below so far, how many leaves may follow, and the answer once found. */
+/* A walk down a column: the best line below so far, and the answer once found. */
 struct walk {
   struct point p;
   size_t best;
-  unsigned left;
   u32 answer;
 };
 
-/* Once the best line below passes at the leaf's south side or above, nothing further south is higher. */
-static enum going walk_leaf(const struct lookup *m, const u16 *slots, size_t count, u16 south, struct walk *w) {
-  if (w->left == 0) return CAPPED;
-  w->left--;
-  if (scan_slots(m->lines, slots, count, w->p, &w->best, &w->answer)) return ANSWER;
-  if (w->best == NOTHING) return GOING;
+/* True once the answer is found. When the best line below passes at the leaf's south side or above, nothing further
+** south is higher. */
+static bool walk_leaf(const struct lookup *m, const u16 *slots, size_t count, u16 south, struct walk *w) {
+  if (scan_slots(m->lines, slots, count, w->p, &w->best, &w->answer)) return true;
+  if (w->best == NOTHING) return false;
   struct line e = eastward(line_at(m->lines, w->best));
   struct point foot = {w->p.x, south};
-  if (turn(e.a, e.b, foot) > 0) return GOING;
+  if (turn(e.a, e.b, foot) > 0) return false;
   w->answer = answer_below(m->lines, w->best);
-  return ANSWER;
+  return true;
 }
 
-static enum going walk_block(const struct lookup *m, size_t node, struct block k, struct walk *w) {
-  if (w->p.y <= k.south) return GOING;
-  size_t count = m->nodes[node];
-  const u16 *entry = m->index + 4 * node;
-  if (count != DIVIDED) return walk_leaf(m, m->listings + entry[0], count, k.south, w);
-  unsigned h = k.side / 2u, east = w->p.x < k.west + h ? 0 : 1, west = k.west + east * h;
-  enum going so = walk_block(m, entry[east], block_of(west, k.south + h, h), w);
-  if (so != GOING) return so;
-  return walk_block(m, entry[east + 2], block_of(west, k.south, h), w);
+/* A block over the point, with its node. */
+struct spot { u16 node, west, south, side; };
+
+/* To the northernmost leaf over p that is south of p. The blocks under those gone into are put by. */
+static struct spot go_down(const struct lookup *m, struct point p, struct spot at, struct spot *later, size_t *by) {
+  while (m->nodes[at.node] == DIVIDED) {
+    const u16 *entry = m->index + 4 * at.node;
+    u16 side = at.side / 2, middle = (u16)(at.west + side), north = (u16)(at.south + side);
+    size_t east = p.x >= middle, upper = north < p.y;
+    u16 west = east ? middle : at.west;
+    struct spot lower = {entry[east + 2], west, at.south, side};
+    later[*by] = lower;
+    *by += upper;
+    at = (struct spot){entry[east + 2 * (1 - upper)], west, upper ? north : at.south, side};
+  }
+  return at;
+}
+
+static u32 walk_column(const struct lookup *m, struct point p) {
+  struct walk w = {p, NOTHING, 0};
+  struct spot at = {0, 0, 0, SIDE}, later[16] = {{0, 0, 0, 0}};
+  size_t by = 0;
+  for (unsigned left = LEAVES; left > 0; left--) {
+    at = go_down(m, p, at, later, &by);
+    if (walk_leaf(m, m->listings + m->index[4 * at.node], m->nodes[at.node], at.south, &w)) return w.answer;
+    if (by == 0) return answer_below(m->lines, w.best);
+    at = later[--by];
+  }
+  return search(m->lines, m->live, m->live_count, p);
 }
 
 static u32 answer_at(const struct lookup *m, struct point p) {
-  struct walk w = {p, NOTHING, LEAVES, 0};
-  enum going so = walk_block(m, 0, block_of(0, 0, SIDE), &w);
-  if (so == ANSWER) return w.answer;
-  if (so == GOING) return answer_below(m->lines, w.best);
-  return search(m->lines, m->live, m->live_count, p);
+  return m->live_count < FEW ? search(m->lines, m->live, m->live_count, p) : walk_column(m, p);
 }
 
 static void answer_all(READ_TABLES, ASKED) {

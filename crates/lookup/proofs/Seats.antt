@@ -3,6 +3,7 @@ use mathlib.Core.Path.{_≡_, refl, sym, ap, _∙_, subst}
 use mathlib.Core.Bool.{Bool, true, false}
 use mathlib.Core.List.{List, [], _++_, append-assoc}
 use Prim.Native.Nat.{ℕ, zero, suc, _+_, _-_, _*_, _/_, _^_, _≤_, _<_}
+use native.Mathlib.Numerals.{add-one}
 use native.Mathlib.Omega.{arith}
 use lib.ListN.{length, getD, take, drop, replicate, length-append}
 use lib.Seq.{take-at, drop-at}
@@ -53,10 +54,10 @@ module _ {nodes listings index : List ℕ} where
           let l₃ = part-left _ (listingsOf se) l in
           let l₂ = part-left _ (listingsOf sw) l₃ in
           record {
-            nw-seat = λ j e. seat _ j e (o .to-nw) a (omega arith) (omega arith) p (part-left _ (listingsOf ne) l₂);
-            ne-seat = λ j e. seat _ j e (o .to-ne) b (omega arith) (omega arith) q (part-right (listingsOf nw) _ l₂ _ refl);
-            sw-seat = λ j e. seat _ j e (o .to-sw) c (omega arith) (omega arith) r (part-right (listingsOf nw ++ listingsOf ne) _ l₃ _ (simp length-append (omega arith)));
-            se-seat = λ j e. seat _ j e (o .to-se) d (omega arith) (omega arith) s (part-right (listingsOf nw ++ listingsOf ne ++ listingsOf sw) _ l _ (simp length-append (omega arith)));
+            nw-seat = λ j e. seat _ j e (o .first) a (omega arith) (omega arith) p (part-left _ (listingsOf ne) l₂);
+            ne-seat = λ j e. seat _ j e (o .second) b (omega arith) (omega arith) q (part-right (listingsOf nw) _ l₂ _ refl);
+            sw-seat = λ j e. seat _ j e (o .third) c (omega arith) (omega arith) r (part-right (listingsOf nw ++ listingsOf ne) _ l₃ _ (simp length-append (omega arith)));
+            se-seat = λ j e. seat _ j e (o .fourth) d (omega arith) (omega arith) s (part-right (listingsOf nw ++ listingsOf ne ++ listingsOf sw) _ l _ (simp length-append (omega arith)));
           }
 
 -- ---- The tree over a block
@@ -132,12 +133,13 @@ module _ {lines nodes listings index : List ℕ} {p : Point} {node : ℕ} {k : B
   pub record Halves (q : ℕ) (a b : Block) : Type 0 where
     pub upper : Placed lines nodes listings index p (getD index (4 * node + q) 0) a
     pub lower : Placed lines nodes listings index p (getD index (4 * node + q + 2) 0) b
+    pub level : (upper .level + 1 ≡ h .level) × (lower .level + 1 ≡ h .level)
     pub less : (a .side < k .side) × (b .side < k .side)
     pub top : north a ≡ north k
     pub seam : north b ≡ a .south
     pub bottom : b .south ≡ k .south
 
-  module _ (m : ℕ) (s : k .side ≡ 2 ^ suc (suc m)) (t : Seat nodes listings index (sonsBy rule (liveLines lines) m (k .west) (k .south)) node (h .first)) where
+  module _ (m : ℕ) (v : m + 1 ≡ h .level) (s : k .side ≡ 2 ^ suc (suc m)) (t : Seat nodes listings index (sonsBy rule (liveLines lines) m (k .west) (k .south)) node (h .first)) where
     half : k .side / 2 ≡ 2 ^ suc m
     half = ap (λ (x : ℕ). x / 2) s ∙ half-power m
 
@@ -151,26 +153,34 @@ module _ {lines nodes listings index : List ℕ} {p : Point} {node : ℕ} {k : B
         Placed lines nodes listings index p (getD index j 0) (square w s (k .side / 2))
     son w s j f t a b c d = record { chart = h .chart; level = m; first = f; side-is = half; seat = t; from-west = a; to-east = b; east-in = c; north-in = d }
 
-    stacked : (q w : ℕ) → Placed lines nodes listings index p (getD index (4 * node + q) 0) (square w (k .south + k .side / 2) (k .side / 2)) →
-        Placed lines nodes listings index p (getD index (4 * node + q + 2) 0) (square w (k .south) (k .side / 2)) →
+    stacked : (q w : ℕ) (a : Placed lines nodes listings index p (getD index (4 * node + q) 0) (square w (k .south + k .side / 2) (k .side / 2)))
+        (b : Placed lines nodes listings index p (getD index (4 * node + q + 2) 0) (square w (k .south) (k .side / 2))) → a .level ≡ m → b .level ≡ m →
         Halves q (square w (k .south + k .side / 2) (k .side / 2)) (square w (k .south) (k .side / 2))
-    stacked q w a b = record { upper = a; lower = b; less = (omega (arith, twice, some), omega (arith, twice, some)); top = omega (arith, twice); seam = refl; bottom = refl }
+    stacked q w a b x y = record { upper = a; lower = b; level = (ap (λ (n : ℕ). n + 1) x ∙ v, ap (λ (n : ℕ). n + 1) y ∙ v); less = (omega (arith, twice, some), omega (arith, twice, some)); top = omega (arith, twice); seam = refl; bottom = refl }
 
     pick : {q : ℕ} {a b : Block} → StripOver p k q a b → Halves q a b
+    unfolding son
     pick (in-west x e f) = rw (e, f) (stacked _ _
         (son _ _ _ _ (rw (← half) at (seats t .nw-seat (4 * node + 0) (omega arith))) (h .from-west) (omega arith) (omega (arith, twice, h .east-in)) (omega (arith, twice, h .north-in)))
-        (son _ _ _ _ (seats t .sw-seat (4 * node + 0 + 2) (omega arith)) (h .from-west) (omega arith) (omega (arith, twice, h .east-in)) (omega (arith, twice, h .north-in))))
+        (son _ _ _ _ (seats t .sw-seat (4 * node + 0 + 2) (omega arith)) (h .from-west) (omega arith) (omega (arith, twice, h .east-in)) (omega (arith, twice, h .north-in))) refl refl)
     pick (in-east x e f) = rw (e, f) (stacked _ _
         (son _ _ _ _ (rw (← half) at (seats t .ne-seat (4 * node + 1) (omega arith))) x (omega (arith, twice, h .to-east)) (omega (arith, twice, h .east-in)) (omega (arith, twice, h .north-in)))
-        (son _ _ _ _ (rw (← half) at (seats t .se-seat (4 * node + 1 + 2) (omega arith))) x (omega (arith, twice, h .to-east)) (omega (arith, twice, h .east-in)) (omega (arith, twice, h .north-in))))
+        (son _ _ _ _ (rw (← half) at (seats t .se-seat (4 * node + 1 + 2) (omega arith))) x (omega (arith, twice, h .to-east)) (omega (arith, twice, h .east-in)) (omega (arith, twice, h .north-in))) refl refl)
 
   pub halves : {q : ℕ} {a b : Block} → getD nodes node 0 ≡ 65535 → StripOver p k q a b → Halves q a b
-  halves e o = go (shape rule (liveLines lines) (h .level) (k .west) (k .south)) (h .side-is) (h .seat) o
+  halves e o = go (shape rule (liveLines lines) (h .level) (k .west) (k .south)) refl (h .side-is) (h .seat) o
     where
-      go : {n q : ℕ} {a b : Block} → Shape rule (liveLines lines) n (k .west) (k .south) → k .side ≡ 2 ^ suc n → Seat nodes listings index (treeBy rule (liveLines lines) n (k .west) (k .south)) node (h .first) →
+      go : {n q : ℕ} {a b : Block} → Shape rule (liveLines lines) n (k .west) (k .south) → n ≡ h .level → k .side ≡ 2 ^ suc n → Seat nodes listings index (treeBy rule (liveLines lines) n (k .west) (k .south)) node (h .first) →
           StripOver p k q a b → Halves q a b
-      go (whole q) s t o = absurd (omega (arith, leaf-short (rw q at t)))
-      go (parted {m = m} q) s t o = pick m s (rw q at t) o
+      go (whole q) v s t o = absurd (omega (arith, leaf-short (rw q at t)))
+      go (parted {m = m} q) v s t o = pick m (add-one m ∙ v) s (rw q at t) o
+
+  pub above-ground : getD nodes node 0 ≡ 65535 → 1 ≤ h .level
+  above-ground e = go (shape rule (liveLines lines) (h .level) (k .west) (k .south)) (h .seat)
+    where
+      go : {n : ℕ} → Shape rule (liveLines lines) n (k .west) (k .south) → Seat nodes listings index (treeBy rule (liveLines lines) n (k .west) (k .south)) node (h .first) → 1 ≤ n
+      go (whole q) t = absurd (omega (arith, leaf-short (rw q at t)))
+      go (parted q) t = omega arith
 
   pub placed-there : node < length nodes
   placed-there = there (h .seat .standing)
@@ -205,3 +215,7 @@ map-placed {lines} {nodes} {listings} {index} {p} h x = record {
   east-in = omega arith;
   north-in = omega arith;
 }
+
+pub map-level : {lines nodes listings index : List ℕ} (p : Point) (h : Charted lines nodes listings index) (x : p .x .0 ≤ 32767) → map-placed {p = p} h x .level ≡ 14
+unfolding map-placed
+map-level p h x = refl

@@ -21,17 +21,21 @@ use tables::row_at;
 use tables::upper_label;
 use tables::wide;
 use walk::index_nodes;
+use walk::put_four;
 ghost use mathlib.Core.Path.{_≡_};
-ghost use Prim.Native.Nat.{_+_, _*_, _<_};
+ghost use Prim.Native.Nat.{_+_, _*_, _≤_, _<_};
 ghost use lib.ListN.{length};
 ghost use Rattle.definitions.specs.Lookup.{answerAt, answerTo, answersTo};
-ghost use Rattle.definitions.specs.Shape.{north};
+ghost use Rattle.definitions.specs.Shape.{wholeMap};
 ghost use Rattle.geometry.specs.Means.{blockOf};
 ghost use Rattle.meaning.specs.Column.{labelOf};
-ghost use Rattle.lookup.specs.Asked.{Compared, upperOf, UnderSome, Scannable, ScanIs, Plain, StripOver, LeafOver, Down, WalkIs, Mapped, Ready, Placed, OnGrid};
+ghost use Rattle.lookup.specs.Asked.{Compared, upperOf, UnderSome, Scannable, ScanIs, Plain, StripOver, SonEntry, Entered, GoneIn, Walking, GoneDown, TakenUp, LeafOver, WalkIs, AtLeaf, Mapped, Ready, OnGrid};
 
 // How many leaves a walk looks at before it gives way to a plain search.
 const LEAVES: u16 = 64;
+
+// With fewer live lines than these a plain search is faster than a walk.
+const FEW: usize = 24;
 
 // What a scan of slots finds: the first line through the point; or, where there is none, the best line below.
 enum Scan {
@@ -39,11 +43,10 @@ enum Scan {
     Best(Found),
 }
 
-// What a walk tells: the answer, or the best line below so far and how many leaves may follow, or that it was too long.
+// What a walk tells after a leaf: the answer, or the best line below so far.
 enum Walk {
     Answer(u32),
-    Going(Found, u16),
-    Capped,
+    Going(Found),
 }
 
 // The half of a block that lies over a point: 0 for the west half, 1 for the east, and its two sons.
@@ -51,6 +54,13 @@ struct Strip {
     which: usize,
     above: Block,
     below: Block,
+}
+
+// Where a walk stands: at a block over the point, with its node; so many blocks south of it are put by for later.
+struct Spot {
+    node: usize,
+    block: Block,
+    by: usize,
 }
 
 // Of the best line so far and that of slot s, which has the ends of l, the higher.
@@ -109,6 +119,21 @@ fn answer_below(lines: &[u16], best: Found) -> u32
     }
 }
 
+// The whole map, with nothing put by.
+fn whole_map() -> Spot
+    ensures { λ r. ⌜ (r .node ≡ 0) × (blockOf (r .block) ≡ wholeMap) × (r .by ≡ 0) ⌝ }
+{
+    Spot {
+        node: 0,
+        block: Block {
+            west: Half(0),
+            south: Half(0),
+            side: 32768,
+        },
+        by: 0,
+    }
+}
+
 // All live lines looked at.
 fn search_all(lines: &[u16], live: &[u16], p: Point) -> u32
     requires { ⌜ Plain (now lines) (now live) ⌝ }
@@ -138,64 +163,150 @@ fn strip_of(p: Point, k: Block) -> Strip
     }
 }
 
+// The lower son's place among the four entries of the index is 2 after that of the upper.
+fn entry_of(entry: usize, upper: bool) -> usize
+    requires { ⌜ entry + 2 < 65536 ⌝ }
+    ensures { λ r. ⌜ SonEntry entry upper r ⌝ }
+{
+    if upper { entry } else { entry + 2 }
+}
+
+// Into a divided block: to the upper son over p, with the lower put by; or, where the upper is not south of p, to the lower.
+// The node is read from one place, so that no branch has to be guessed.
+fn go_in(index: &[u16], later: &mut [u16], p: Point, at: Spot) -> Spot
+    requires { ⌜ Entered (now index) (now later) at ⌝ }
+    ensures { λ r. ⌜ GoneIn (now (index .entry)) p at (now (later .entry)) (now (later .exit)) r ⌝ }
+{
+    let by = at.by;
+    let two = strip_of(p, at.block);
+    let above = two.above;
+    let below = two.below;
+    let entry = 4 * at.node + two.which;
+    put_four(
+        later,
+        by,
+        index[entry + 2],
+        below.west.0,
+        below.south.0,
+        below.side,
+    );
+    let upper = above.south.0 < p.y.0;
+    let son = entry_of(entry, upper);
+    let node = wide(index[son]);
+    if upper {
+        return Spot {
+            node,
+            block: above,
+            by: by + 1,
+        };
+    }
+    Spot {
+        node,
+        block: below,
+        by,
+    }
+}
+
+// To the northernmost leaf over p that is south of p.
+fn go_down(nodes: &[u16], index: &[u16], later: &mut [u16], p: Point, from: Spot) -> Spot
+    requires { ⌜ Walking (now nodes) (now index) (now later) p from ⌝ }
+    ensures { λ r. ⌜ GoneDown (now (nodes .entry)) (now (index .entry)) p from (now (later .entry)) (now (later .exit)) r ⌝ }
+{
+    let mut at = from;
+    let mut node = at.node;
+    while nodes[node] == 65535 {
+        at = go_in(index, later, p, at);
+        node = at.node;
+    }
+    at
+}
+
+// The block put by last.
+fn take_up(later: &[u16], by: usize) -> Spot
+    requires { ⌜ 4 * by + 4 ≤ length (now later) ⌝ }
+    ensures { λ r. ⌜ TakenUp (now (later .entry)) by r ⌝ }
+{
+    let at = 4 * by;
+    Spot {
+        node: wide(later[at]),
+        block: Block {
+            west: Half(later[at + 1]),
+            south: Half(later[at + 2]),
+            side: later[at + 3],
+        },
+        by,
+    }
+}
+
 // A leaf of the column: once the best line below passes at its south side or above, nothing further south is higher.
-fn walk_leaf(lines: &[u16], slots: &[u16], p: Point, k: Block, c: Found, left: u16) -> Walk
+fn walk_leaf(lines: &[u16], slots: &[u16], p: Point, k: Block, c: Found) -> Walk
     requires { ⌜ LeafOver (now lines) (now slots) p (blockOf k) c ⌝ }
     ensures { λ r. ⌜ WalkIs (now (lines .entry)) p (k .south .0) r ⌝ }
 {
-    if left == 0 {
-        return Walk::Capped;
-    }
-    let rest = left - 1;
     match scan_slots(lines, slots, p, c) {
         Scan::On(s) => Walk::Answer(answer_on(s)),
         Scan::Best(best) => match best {
-            Found::Nothing => Walk::Going(best, rest),
+            Found::Nothing => Walk::Going(best),
             Found::At(s) => {
                 if reaches(line_at(lines, s), p.x, k.south) {
                     return Walk::Answer(answer_below(lines, best));
                 }
-                Walk::Going(best, rest)
+                Walk::Going(best)
             }
         },
     }
 }
 
-// The leaves of a block that lie over p, from north to south; a block that is not south of p is passed over.
-fn walk_block(
+// The leaf at this spot, with its list.
+fn walk_spot(
     lines: &[u16],
     nodes: &[u16],
     listings: &[u16],
     index: &[u16],
     p: Point,
-    node: usize,
-    k: Block,
+    at: Spot,
     c: Found,
-    left: u16,
 ) -> Walk
-    requires { ⌜ Placed (now lines) (now nodes) (now listings) (now index) p node (blockOf k) × Down (now lines) p (north (blockOf k)) c ⌝ }
-    ensures { λ r. ⌜ WalkIs (now (lines .entry)) p (k .south .0) r ⌝ }
+    requires { ⌜ AtLeaf (now lines) (now nodes) (now listings) (now index) p at c ⌝ }
+    ensures { λ r. ⌜ WalkIs (now (lines .entry)) p (at .block .south .0) r ⌝ }
 {
-    if p.y.0 <= k.south.0 {
-        return Walk::Going(c, left);
-    }
-    let count = nodes[node];
-    if count != 65535 {
-        let from = wide(index[4 * node]);
-        let to = from + wide(count);
-        return walk_leaf(lines, &listings[from..to], p, k, c, left);
-    }
-    let two = strip_of(p, k);
-    let entry = 4 * node + two.which;
-    let upper = wide(index[entry]);
-    match walk_block(lines, nodes, listings, index, p, upper, two.above, c, left) {
-        Walk::Going(d, rest) => {
-            let lower = wide(index[entry + 2]);
-            walk_block(lines, nodes, listings, index, p, lower, two.below, d, rest)
+    let node = at.node;
+    let from = wide(index[4 * node]);
+    let to = from + wide(nodes[node]);
+    walk_leaf(lines, &listings[from..to], p, at.block, c)
+}
+
+// The answer by a walk of the column of leaves over p, from north to south.
+fn walk_column(
+    lines: &[u16],
+    nodes: &[u16],
+    listings: &[u16],
+    index: &[u16],
+    live: &[u16],
+    p: Point,
+    later: &mut [u16],
+) -> u32
+    requires { ⌜ Ready (now lines) (now nodes) (now listings) (now index) (now live) × OnGrid p × (length (now later) ≡ 64) ⌝ }
+    ensures { λ r. ⌜ r ≡ answerAt (now (lines .entry)) p ⌝ }
+{
+    let mut at = whole_map();
+    let mut best = Found::Nothing;
+    let mut left = LEAVES;
+    while 0 < left {
+        at = go_down(nodes, index, later, p, at);
+        match walk_spot(lines, nodes, listings, index, p, at, best) {
+            Walk::Answer(n) => return n,
+            Walk::Going(d) => {
+                best = d;
+            }
         }
-        Walk::Answer(n) => Walk::Answer(n),
-        Walk::Capped => Walk::Capped,
+        if at.by == 0 {
+            return answer_below(lines, best);
+        }
+        at = take_up(later, at.by - 1);
+        left -= 1;
     }
+    search_all(lines, live, p)
 }
 
 // The answer to a point of the grid.
@@ -210,26 +321,11 @@ fn answer_at(
     requires { ⌜ Ready (now lines) (now nodes) (now listings) (now index) (now live) × OnGrid p ⌝ }
     ensures { λ r. ⌜ r ≡ answerAt (now (lines .entry)) p ⌝ }
 {
-    let whole = Block {
-        west: Half(0),
-        south: Half(0),
-        side: 32768,
-    };
-    match walk_block(
-        lines,
-        nodes,
-        listings,
-        index,
-        p,
-        0,
-        whole,
-        Found::Nothing,
-        LEAVES,
-    ) {
-        Walk::Answer(n) => n,
-        Walk::Going(best, _) => answer_below(lines, best),
-        Walk::Capped => search_all(lines, live, p),
+    if live.len() < FEW {
+        return search_all(lines, live, p);
     }
+    let mut later = [0u16; 64];
+    walk_column(lines, nodes, listings, index, live, p, &mut later)
 }
 
 // The answer to a pair of grid numbers, any 16-bit numbers.

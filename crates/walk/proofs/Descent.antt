@@ -60,13 +60,13 @@ descend {nodes} {index} {p} {sought} {n} {west} {south} {q} {w} {s} side r e o =
     go : {nw ne sw se : Tree} {f q w s : ℕ} → Row nodes n (nw ∷ ne ∷ sw ∷ se ∷ []) (n + 1) f → Indexed index (divided nw ne sw se) n f → sought ≡ here p nw ne sw se (square west south side) f →
         SonOver p west south (side / 2) q w s → (n < getD index (4 * n + q) 0) × Reached nodes index p sought (getD index (4 * n + q) 0) w s (side / 2)
     go {nw} {ne} {sw} {se} {f} (one h₁ a (one h₂ b (one h₃ c (one h₄ d none)))) (sons-indexed i x y z v) m (in-nw h k) =
-        (rw (add-zero, i .to-nw) h₁, record { tree = nw; first = f; standing = rw (add-zero, i .to-nw) a; indexed = rw (add-zero, i .to-nw) x; same = m ∙ to-nw p nw ne sw se (square west south side) f h k })
+        (rw (add-zero, i .first) h₁, record { tree = nw; first = f; standing = rw (add-zero, i .first) a; indexed = rw (add-zero, i .first) x; same = m ∙ to-nw p nw ne sw se (square west south side) f h k })
     go {nw} {ne} {sw} {se} {f} (one h₁ a (one h₂ b (one h₃ c (one h₄ d none)))) (sons-indexed i x y z v) m (in-ne h k) =
-        (rw (i .to-ne) h₂, record { tree = ne; first = neFirst f nw; standing = rw (i .to-ne) b; indexed = rw (i .to-ne) y; same = m ∙ to-ne p nw ne sw se (square west south side) f h k })
+        (rw (i .second) h₂, record { tree = ne; first = neFirst f nw; standing = rw (i .second) b; indexed = rw (i .second) y; same = m ∙ to-ne p nw ne sw se (square west south side) f h k })
     go {nw} {ne} {sw} {se} {f} (one h₁ a (one h₂ b (one h₃ c (one h₄ d none)))) (sons-indexed i x y z v) m (in-sw h k) =
-        (rw (i .to-sw) h₃, record { tree = sw; first = swFirst f nw ne; standing = rw (i .to-sw) c; indexed = rw (i .to-sw) z; same = m ∙ to-sw p nw ne sw se (square west south side) f h k })
+        (rw (i .third) h₃, record { tree = sw; first = swFirst f nw ne; standing = rw (i .third) c; indexed = rw (i .third) z; same = m ∙ to-sw p nw ne sw se (square west south side) f h k })
     go {nw} {ne} {sw} {se} {f} (one h₁ a (one h₂ b (one h₃ c (one h₄ d none)))) (sons-indexed i x y z v) m (in-se h k) =
-        (rw (i .to-se) h₄, record { tree = se; first = seFirst f nw ne sw; standing = rw (i .to-se) d; indexed = rw (i .to-se) v; same = m ∙ to-se p nw ne sw se (square west south side) f h k })
+        (rw (i .fourth) h₄, record { tree = se; first = seFirst f nw ne sw; standing = rw (i .fourth) d; indexed = rw (i .fourth) v; same = m ∙ to-se p nw ne sw se (square west south side) f h k })
 
 -- at a leaf, it is the one that is sought
 pub arrive : {nodes index : List ℕ} {p : Point} {sought : LeafOfMap} {n west south side : ℕ} → Reached nodes index p sought n west south side → (getD nodes n 0 ≡ 65535 → ⊥) →

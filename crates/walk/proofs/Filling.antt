@@ -7,7 +7,7 @@ use lib.ListN.{length, getD, set, replicate, length-set, length-replicate}
 use lib.Seq.{getD-set-same, getD-set-other}
 use Rattle.definitions.specs.Tree.{Tree, leaf, divided, nodesOf, listingsOf}
 use Rattle.walk.specs.Placing.{divided-nodes, divided-listings, some-node, there}
-use Rattle.walk.specs.Index.{afterNodes, afterListings, neAt, swAt, seAt, neFirst, swFirst, seFirst, Stands, leaf-stands, sons-stand, Standing, Sons, Indexed, leaf-indexed, sons-indexed, Walkable, Pointed, Filled}
+use Rattle.walk.specs.Index.{afterNodes, afterListings, neAt, swAt, seAt, neFirst, swFirst, seFirst, Stands, leaf-stands, sons-stand, Standing, Entries, Indexed, leaf-indexed, sons-indexed, Walkable, Put, Filled}
 
 -- ---- Entries of the index
 
@@ -41,13 +41,13 @@ module _ (s : List ℕ) (n nw ne sw se : ℕ) where
       (kept s₁ (4 * n + 1) ne k (λ e. h (omega arith) (omega arith))
       (kept s (4 * n) nw k (λ e. h (omega arith) (omega arith)) refl)))
 
-  pub pointed : 4 * n + 4 ≤ length s → Pointed n nw ne sw se s (set s₃ (4 * n + 3) se)
-  pointed h = record {
-    sons = record {
-      to-nw = after-3 _ nw (omega arith) (after-2 _ nw (omega arith) (after-1 _ nw (omega arith) (getD-set-same s (4 * n) nw 0 (omega arith))));
-      to-ne = after-3 _ ne (omega arith) (after-2 _ ne (omega arith) (getD-set-same s₁ (4 * n + 1) ne 0 (simp length-set (omega arith))));
-      to-sw = after-3 _ sw (omega arith) (getD-set-same s₂ (4 * n + 2) sw 0 (simp length-set (omega arith)));
-      to-se = getD-set-same s₃ (4 * n + 3) se 0 (simp length-set (omega arith));
+  pub put : 4 * n + 4 ≤ length s → Put n nw ne sw se s (set s₃ (4 * n + 3) se)
+  put h = record {
+    entries = record {
+      first = after-3 _ nw (omega arith) (after-2 _ nw (omega arith) (after-1 _ nw (omega arith) (getD-set-same s (4 * n) nw 0 (omega arith))));
+      second = after-3 _ ne (omega arith) (after-2 _ ne (omega arith) (getD-set-same s₁ (4 * n + 1) ne 0 (simp length-set (omega arith))));
+      third = after-3 _ sw (omega arith) (getD-set-same s₂ (4 * n + 2) sw 0 (simp length-set (omega arith)));
+      fourth = getD-set-same s₃ (4 * n + 3) se 0 (simp length-set (omega arith));
     };
     below = λ k b. elsewhere k (λ x y. omega arith);
     above = λ k b. elsewhere k (λ x y. omega arith);
@@ -61,10 +61,10 @@ indexed-kept {s} {s′} (leaf-indexed {slots = slots} {n = n} e) same = leaf-ind
 indexed-kept {s} {s′} (sons-indexed {nw = nw} {ne = ne} {sw = sw} {se = se} {n = n} {f = f} i a b c d) same =
     sons-indexed
     (record {
-      to-nw = same (4 * n) (omega arith) (omega (arith, z)) ∙ i .to-nw;
-      to-ne = same (4 * n + 1) (omega arith) (omega (arith, z)) ∙ i .to-ne;
-      to-sw = same (4 * n + 2) (omega arith) (omega (arith, z)) ∙ i .to-sw;
-      to-se = same (4 * n + 3) (omega arith) (omega (arith, z)) ∙ i .to-se;
+      first = same (4 * n) (omega arith) (omega (arith, z)) ∙ i .first;
+      second = same (4 * n + 1) (omega arith) (omega (arith, z)) ∙ i .second;
+      third = same (4 * n + 2) (omega arith) (omega (arith, z)) ∙ i .third;
+      fourth = same (4 * n + 3) (omega arith) (omega (arith, z)) ∙ i .fourth;
     })
     (indexed-kept a (λ k h j. same k (omega arith) (omega (arith, z))))
     (indexed-kept b (λ k h j. same k (omega arith) (omega (arith, z))))
@@ -151,7 +151,7 @@ filled-leaf {nodes} {t} {n} {f} s h e r = go (h .stands)
 
 pub filled-sons : (nw ne sw se : Tree) {n f a l b m c o d q : ℕ} {s₀ s₁ s₂ s₃ s₄ s₅ : List ℕ} →
     Filled nw (n + 1) f a l s₀ s₁ → Filled ne a l b m s₁ s₂ → Filled sw b m c o s₂ s₃ → Filled se c o d q s₃ s₄ →
-    Pointed n (n + 1) a b c s₄ s₅ →
+    Put n (n + 1) a b c s₄ s₅ →
     Filled (divided nw ne sw se) n f d q s₀ s₅
 filled-sons nw ne sw se {n} {f} {a} {l} {b} {m} {c} {o} {d} {q} {s₀} {s₁} {s₂} {s₃} {s₄} {s₅} g h i j e =
     record {
@@ -161,8 +161,8 @@ filled-sons nw ne sw se {n} {f} {a} {l} {b} {m} {c} {o} {d} {q} {s₀} {s₁} {s
       indexed = sons-indexed entries go-nw go-ne go-sw go-se;
     }
   where
-    entries : Sons s₅ n (n + 1) (neAt n nw) (swAt n nw ne) (seAt n nw ne sw)
-    entries = rw (← g .next-node, ← h .next-node, ← i .next-node) (e .sons)
+    entries : Entries s₅ n (n + 1) (neAt n nw) (swAt n nw ne) (seAt n nw ne sw)
+    entries = rw (← g .next-node, ← h .next-node, ← i .next-node) (e .entries)
 
     go-nw : Indexed s₅ nw (n + 1) f
     go-nw = indexed-kept (g .indexed) (λ k x y. e .above k (omega arith) ∙ j .below k (omega arith) ∙ i .below k (omega arith) ∙ h .below k (omega arith))
@@ -178,7 +178,7 @@ filled-sons nw ne sw se {n} {f} {a} {l} {b} {m} {c} {o} {d} {q} {s₀} {s₁} {s
 
 pub filled-four : {nodes : List ℕ} {t : Tree} {n f a l b m c o d q : ℕ} {s₀ s₁ s₂ s₃ s₄ s₅ : List ℕ} → Standing nodes t n f → getD nodes n 0 ≡ 65535 →
     Told nodes (n + 1) f a l s₀ s₁ → Told nodes a l b m s₁ s₂ → Told nodes b m c o s₂ s₃ → Told nodes c o d q s₃ s₄ →
-    Pointed n (n + 1) a b c s₄ s₅ → Filled t n f d q s₀ s₅
+    Put n (n + 1) a b c s₄ s₅ → Filled t n f d q s₀ s₅
 filled-four h e t₁ t₂ t₃ t₄ p =
     let w = four h e in
     let r₂ = next (w .row) t₁ in

@@ -64,18 +64,18 @@ pub record Standing (nodes : List ℕ) (t : Tree) (n f : ℕ) : Type 0 where
 
 -- ---- The index
 
--- the four entries of node n
-pub record Sons (index : List ℕ) (n nw ne sw se : ℕ) : Type 0 where
-  pub to-nw : getD index (4 * n) 0 ≡ nw
-  pub to-ne : getD index (4 * n + 1) 0 ≡ ne
-  pub to-sw : getD index (4 * n + 2) 0 ≡ sw
-  pub to-se : getD index (4 * n + 3) 0 ≡ se
+-- the four entries of place n; in the index: the nodes of the sons NW, NE, SW and SE of node n
+pub record Entries (table : List ℕ) (n a b c d : ℕ) : Type 0 where
+  pub first : getD table (4 * n) 0 ≡ a
+  pub second : getD table (4 * n + 1) 0 ≡ b
+  pub third : getD table (4 * n + 2) 0 ≡ c
+  pub fourth : getD table (4 * n + 3) 0 ≡ d
 
 -- the index of the tree at n: the nodes of a divided block's sons, and where a leaf's listings start
 pub data Indexed (index : List ℕ) : Tree → ℕ → ℕ → Type 0 where
   leaf-indexed : {slots : List ℕ} {n f : ℕ} → getD index (4 * n) 0 ≡ f → Indexed index (leaf slots) n f
   sons-indexed : {nw ne sw se : Tree} {n f : ℕ} →
-      Sons index n (n + 1) (neAt n nw) (swAt n nw ne) (seAt n nw ne sw) →
+      Entries index n (n + 1) (neAt n nw) (swAt n nw ne) (seAt n nw ne sw) →
       Indexed index nw (n + 1) f →
       Indexed index ne (neAt n nw) (neFirst f nw) →
       Indexed index sw (swAt n nw ne) (swFirst f nw ne) →
@@ -91,9 +91,9 @@ pub record Walkable (nodes : List ℕ) (entries n f : ℕ) : Type 0 where
   pub few : length nodes ≤ 16384
   pub room : 4 * length nodes ≤ entries
 
--- the index s became s′: the entries of node n are these, and all others as they were
-pub record Pointed (n nw ne sw se : ℕ) (s s′ : List ℕ) : Type 0 where
-  pub sons : Sons s′ n nw ne sw se
+-- the table s became s′: the entries of place n are these, and all others as they were
+pub record Put (n a b c d : ℕ) (s s′ : List ℕ) : Type 0 where
+  pub entries : Entries s′ n a b c d
   pub below : (k : ℕ) → k < 4 * n → getD s′ k 0 ≡ getD s k 0
   pub above : (k : ℕ) → 4 * n + 4 ≤ k → getD s′ k 0 ≡ getD s k 0
 

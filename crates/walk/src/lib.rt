@@ -6,7 +6,7 @@ ghost use mathlib.Core.Path.{_≡_};
 ghost use Prim.Native.Nat.{ℕ, _+_, _*_, _≤_, _<_};
 ghost use lib.ListN.{length};
 ghost use Rattle.definitions.specs.Tree.{Tree};
-ghost use Rattle.walk.specs.Index.{Standing, Indexed, Walkable, Filled, Pointed, SonOver, Searchable, LeafOver};
+ghost use Rattle.walk.specs.Index.{Standing, Indexed, Walkable, Filled, Put, SonOver, Searchable, LeafOver};
 
 // A leaf: its block, where its listings start, and how many they are.
 pub struct Leaf {
@@ -30,16 +30,16 @@ fn wide(x: u16) -> usize
     x as usize
 }
 
-// The four entries of a divided block: the nodes of its sons.
-fn index_sons(index: &mut [u16], node: usize, nw: usize, ne: usize, sw: usize, se: usize)
-    requires { ⌜ (4 * node + 4 ≤ length (now index)) × (nw < 65536) × (ne < 65536) × (sw < 65536) × (se < 65536) ⌝ }
-    ensures { λ _. ⌜ Pointed node nw ne sw se (now (index .entry)) (now (index .exit)) ⌝ }
+// Four entries of a table, in its place n.
+pub fn put_four(table: &mut [u16], n: usize, a: u16, b: u16, c: u16, d: u16)
+    requires { ⌜ 4 * n + 4 ≤ length (now table) ⌝ }
+    ensures { λ _. ⌜ Put n a b c d (now (table .entry)) (now (table .exit)) ⌝ }
 {
-    let at = 4 * node;
-    index[at] = nw as u16;
-    index[at + 1] = ne as u16;
-    index[at + 2] = sw as u16;
-    index[at + 3] = se as u16;
+    let at = 4 * n;
+    table[at] = a;
+    table[at + 1] = b;
+    table[at + 2] = c;
+    table[at + 3] = d;
 }
 
 // The entries of a block and of all blocks in it, and the places after it.
@@ -62,7 +62,14 @@ fn index_block(nodes: &[u16], index: &mut [u16], at: Place) -> Place
     let sw = index_block(nodes, index, ne);
     let se = index_block(nodes, index, sw);
     let next = index_block(nodes, index, se);
-    index_sons(index, node, nw, ne.node, sw.node, se.node);
+    put_four(
+        index,
+        node,
+        nw as u16,
+        ne.node as u16,
+        sw.node as u16,
+        se.node as u16,
+    );
     next
 }
 

@@ -7,14 +7,8 @@ use Rattle.lookup.proofs.Scans.{under-map, scan-best}
 use Rattle.lookup.proofs.walk_leaf.Statement.{statement}
 use Rattle.lookup.proofs.walk_leaf.Tie as tie
 
-returns : tie.Need-returns
-returns c = search needs
-
-sub-rest : tie.Need-sub-rest
-sub-rest c = search needs
-
 scan-slots-requires : tie.Need-scan-slots-requires
-scan-slots-requires c κs = leaf-scannable (c .before .before .before .pre)
+scan-slots-requires c κs = leaf-scannable (c .before .before .pre)
 
 enum-known-s : tie.Need-enum-known-s
 enum-known-s c = search needs
@@ -38,29 +32,27 @@ reaches-requires : tie.Need-reaches-requires
 reaches-requires c κs = search needs
 
 answer-below-requires : tie.Need-answer-below-requires
-answer-below-requires c κs = let x = c .before .before .before .before in let b = x .before .before .before in let g = b .before .before in record { point = g .before .before .before .before .args .p; under = scan-best (g .scan-slots .ensures) (b .best .given .1) (x .best2 .given .1) .under }
+answer-below-requires c κs = let x = c .before .before .before .before in let b = x .before .before .before in let g = b .before .before in record { point = g .before .before .before .args .p; under = scan-best (g .scan-slots .ensures) (b .best .given .1) (x .best2 .given .1) .under }
+
+returns : tie.Need-returns
+returns c = let t = c .before in let l = t .before .before in let x = l .before .before in let b = x .before .before .before in let g = b .before .before in let s = g .before .before .before in
+    c .answer-below .ensures ∙ leaf-reached (s .pre) (scan-best (g .scan-slots .ensures) (b .best .given .1) (x .best2 .given .1)) (sym (reach-is _ (s .args .p) (s .args .k .south) (l .line-at .ensures) (t .before .reaches .ensures)) ∙ t .if1 .taken)
 
 returns-2 : tie.Need-returns-2
-returns-2 c = let t = c .before in let l = t .before .before in let x = l .before .before in let b = x .before .before .before in let g = b .before .before in let s = g .before .before .before .before in
-    c .answer-below .ensures ∙ leaf-reached (s .pre) (scan-best (g .scan-slots .ensures) (b .best .given .1) (x .best2 .given .1)) (sym (reach-is _ (s .args .p) (s .args .k .south) (l .line-at .ensures) (t .before .reaches .ensures)) ∙ t .if2 .taken)
+returns-2 c = let a = c .before .before in let g = a .before .before in c .answer-on .ensures ∙ leaf-on (g .before .before .before .pre) (rw (a .s .given .1) at (g .scan-slots .ensures))
 
 returns-3 : tie.Need-returns-3
-returns-3 c = let a = c .before .before in let g = a .before .before in c .answer-on .ensures ∙ leaf-on (g .before .before .before .before .pre) (rw (a .s .given .1) at (g .scan-slots .ensures))
-
-returns-4 : tie.Need-returns-4
-returns-4 c = let b = c .before .before .before in let g = b .before .before in let s = g .before .before .before .before in
+returns-3 c = let b = c .before .before .before in let g = b .before .before in let s = g .before .before .before in
     leaf-going (s .pre) (scan-best (g .scan-slots .ensures) (b .best .given .1) refl) (ap (reached (s .args .lines .now) (s .args .p) (s .args .k .south .0)) (c .enum-told .given .1) ∙ none-reached _ _ _)
 
-returns-5 : tie.Need-returns-5
-returns-5 c = let l = c .before .before in let x = l .before .before in let b = x .before .before .before in let g = b .before .before in let s = g .before .before .before .before in
-    leaf-going (s .pre) (scan-best (g .scan-slots .ensures) (b .best .given .1) (x .best2 .given .1)) (sym (reach-is _ (s .args .p) (s .args .k .south) (l .line-at .ensures) (c .before .reaches .ensures)) ∙ c .if2 .left)
+returns-4 : tie.Need-returns-4
+returns-4 c = let l = c .before .before in let x = l .before .before in let b = x .before .before .before in let g = b .before .before in let s = g .before .before .before in
+    leaf-going (s .pre) (scan-best (g .scan-slots .ensures) (b .best .given .1) (x .best2 .given .1)) (sym (reach-is _ (s .args .p) (s .args .k .south) (l .line-at .ensures) (c .before .reaches .ensures)) ∙ c .if1 .left)
 
 pub walk-leaf-spec : {M : Type 1} → statement M
 walk-leaf-spec =
     tie.close
     (tie.spec
-    returns
-    sub-rest
     scan-slots-requires
     enum-known-s
     answer-on-requires
@@ -70,7 +62,7 @@ walk-leaf-spec =
     line-at-requires
     reaches-requires
     answer-below-requires
+    returns
     returns-2
     returns-3
-    returns-4
-    returns-5)
+    returns-4)

@@ -11,7 +11,7 @@ use Rattle.walk.proofs.Filling.{head, leaf-fits, four, next, asked, fil
 use Rattle.walk.proofs.index_block.Reads as index-block
 use Rattle.walk.proofs.index_block.Kinds as index-block-kinds
 use Rattle.walk.proofs.+index_block.Lts-index_block as index-block-lts
-use Rattle.walk.proofs.index_sons.Reads as index-sons-reads
+use Rattle.walk.proofs.put_four.Reads as put-four-reads
 use Rattle.walk.proofs.wide.Reads as wide-reads
 use Rattle.walk.proofs.+index_block.{statement}
 use Rattle.walk.proofs.+index_block.Tie.{close}
@@ -29,7 +29,7 @@ below t =
 
 abbrev claims : ℕ → index-block-lts.Claims
 claims t =
-    (wide-reads.Asked, wide-reads.Learnt, below t, index-block.Post, index-sons-reads.Asked, index-sons-reads.Learnt)
+    (wide-reads.Asked, wide-reads.Learnt, below t, index-block.Post, put-four-reads.Asked, put-four-reads.Learnt)
 
 mul-count : (t : ℕ) → index-block-lts.Need-mul-count (claims t) (at-measure t) index-block.Post
 mul-count t c = omega (arith, there (c .before .before .pre .1 .standing))
@@ -79,21 +79,46 @@ index-block-requires-3 t c κs = let b2 = c .before .before .before in let b1 = 
 index-block-requires-4 : (t : ℕ) → index-block-lts.Need-index-block-requires-4 (claims t) (at-measure t) index-block.Post
 index-block-requires-4 t c κs = let b3 = c .before .before .before in let b2 = b3 .before .before .before .before in let b1 = b2 .before .before .before .before in let e = b1 .before .before in let s = e .before .before .before .before in asked _ (next (next (next (four (s .pre .1 .standing) (e .if1 .left) .row) (b1 .index-block .ensures)) (b2 .index-block2 .ensures)) (b3 .index-block3 .ensures)) (s .pre) (b3 .index-block3 .kept .1 .0 ∙ b2 .index-block2 .kept .1 .0 ∙ b1 .index-block .kept .1 .0)
 
-index-sons-requires : (t : ℕ) → index-block-lts.Need-index-sons-requires (claims t) (at-measure t) index-block.Post
-index-sons-requires t c κs =
-    let b4 = c .before .before .before in let b3 = b4 .before .before .before .before in let b2 = b3 .before .before .before .before in let b1 = b2 .before .before .before .before in let e = b1 .before .before in let s = e .before .before .before .before in
-    let w = s .pre .1 in
+cast-put-four : (t : ℕ) → index-block-lts.Need-cast-put-four (claims t) (at-measure t) index-block.Post
+cast-put-four t c =
+    let b4 = c .before .before .before in let b3 = b4 .before .before .before .before in let b2 = b3 .before .before .before .before in let b1 = b2 .before .before .before .before in let e = b1 .before .before in let w = e .before .before .before .before .pre .1 in
+    let r1 = four (w .standing) (e .if1 .left) .row in
+    omega (arith, w .few, there (head r1))
+
+cast-put-four-2 : (t : ℕ) → index-block-lts.Need-cast-put-four-2 (claims t) (at-measure t) index-block.Post
+cast-put-four-2 t c =
+    let b4 = c .before .before .before .before in let b3 = b4 .before .before .before .before in let b2 = b3 .before .before .before .before in let b1 = b2 .before .before .before .before in let e = b1 .before .before in let w = e .before .before .before .before .pre .1 in
+    let r1 = four (w .standing) (e .if1 .left) .row in
+    let r2 = next r1 (b1 .index-block .ensures) in
+    omega (arith, w .few, there (head r2))
+
+cast-put-four-3 : (t : ℕ) → index-block-lts.Need-cast-put-four-3 (claims t) (at-measure t) index-block.Post
+cast-put-four-3 t c =
+    let b4 = c .before .before .before .before .before in let b3 = b4 .before .before .before .before in let b2 = b3 .before .before .before .before in let b1 = b2 .before .before .before .before in let e = b1 .before .before in let w = e .before .before .before .before .pre .1 in
+    let r1 = four (w .standing) (e .if1 .left) .row in
+    let r2 = next r1 (b1 .index-block .ensures) in
+    let r3 = next r2 (b2 .index-block2 .ensures) in
+    omega (arith, w .few, there (head r3))
+
+cast-put-four-4 : (t : ℕ) → index-block-lts.Need-cast-put-four-4 (claims t) (at-measure t) index-block.Post
+cast-put-four-4 t c =
+    let b4 = c .before .before .before .before .before .before in let b3 = b4 .before .before .before .before in let b2 = b3 .before .before .before .before in let b1 = b2 .before .before .before .before in let e = b1 .before .before in let w = e .before .before .before .before .pre .1 in
     let r1 = four (w .standing) (e .if1 .left) .row in
     let r2 = next r1 (b1 .index-block .ensures) in
     let r3 = next r2 (b2 .index-block2 .ensures) in
     let r4 = next r3 (b3 .index-block3 .ensures) in
-    omega (arith, there (w .standing), w .room, w .few, there (head r1), there (head r2), there (head r3), there (head r4), b4 .index-block4 .kept .1 .0 ∙ b3 .index-block3 .kept .1 .0 ∙ b2 .index-block2 .kept .1 .0 ∙ b1 .index-block .kept .1 .0)
+    omega (arith, w .few, there (head r4))
+
+put-four-requires : (t : ℕ) → index-block-lts.Need-put-four-requires (claims t) (at-measure t) index-block.Post
+put-four-requires t c κs =
+    let b4 = c .before .before .before .before .before .before in let b3 = b4 .before .before .before .before in let b2 = b3 .before .before .before .before in let b1 = b2 .before .before .before .before in let e = b1 .before .before in let w = e .before .before .before .before .pre .1 in
+    omega (arith, there (w .standing), w .room, b4 .index-block4 .kept .1 .0 ∙ b3 .index-block3 .kept .1 .0 ∙ b2 .index-block2 .kept .1 .0 ∙ b1 .index-block .kept .1 .0)
 
 same-length-2 : (t : ℕ) → index-block-lts.Need-same-length-2 (claims t) (at-measure t) index-block.Post
-same-length-2 t c = let g = c .before .before in let b4 = g .before .before .before .before in let b3 = b4 .before .before .before .before in let b2 = b3 .before .before .before .before in let b1 = b2 .before .before .before .before in g .index-sons .kept .0 ∙ b4 .index-block4 .kept .1 .0 ∙ b3 .index-block3 .kept .1 .0 ∙ b2 .index-block2 .kept .1 .0 ∙ b1 .index-block .kept .1 .0
+same-length-2 t c = let g = c .before .before in let b4 = g .before .before .before .before .before .before .before in let b3 = b4 .before .before .before .before in let b2 = b3 .before .before .before .before in let b1 = b2 .before .before .before .before in g .put-four .kept .0 ∙ b4 .index-block4 .kept .1 .0 ∙ b3 .index-block3 .kept .1 .0 ∙ b2 .index-block2 .kept .1 .0 ∙ b1 .index-block .kept .1 .0
 
 returns-2 : (t : ℕ) → index-block-lts.Need-returns-2 (claims t) (at-measure t) index-block.Post
-returns-2 t c = λ u h. let g = c .before .before in let b4 = g .before .before .before .before in let b3 = b4 .before .before .before .before in let b2 = b3 .before .before .before .before in let b1 = b2 .before .before .before .before in let e = b1 .before .before in filled-four h (e .if1 .left) (b1 .index-block .ensures) (b2 .index-block2 .ensures) (b3 .index-block3 .ensures) (b4 .index-block4 .ensures) (g .index-sons .ensures)
+returns-2 t c = λ u h. let g = c .before .before in let b4 = g .before .before .before .before .before .before .before in let b3 = b4 .before .before .before .before in let b2 = b3 .before .before .before .before in let b1 = b2 .before .before .before .before in let e = b1 .before .before in filled-four h (e .if1 .left) (b1 .index-block .ensures) (b2 .index-block2 .ensures) (b3 .index-block3 .ensures) (b4 .index-block4 .ensures) (g .put-four .ensures)
 
 pub +index-block-spec : {M : Type 1} → statement M
 +index-block-spec = close μ-index-block λ t. index-block-lts.spec (claims t)
@@ -115,6 +140,10 @@ pub +index-block-spec : {M : Type 1} → statement M
     (index-block-requires-2 t)
     (index-block-requires-3 t)
     (index-block-requires-4 t)
-    (index-sons-requires t)
+    (cast-put-four t)
+    (cast-put-four-2 t)
+    (cast-put-four-3 t)
+    (cast-put-four-4 t)
+    (put-four-requires t)
     (same-length-2 t)
     (returns-2 t)
