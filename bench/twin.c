@@ -15,25 +15,25 @@ struct work {
   size_t nodes_len, listings_len;
 };
 
-/* Bits joined with & and |: no branch to guess. */
-static bool all_one_side(i64 a, i64 b, i64 c, i64 d) {
-  return ((a > 0) & (b > 0) & (c > 0) & (d > 0)) | ((a < 0) & (b < 0) & (c < 0) & (d < 0));
-}
+static i64 size(i64 t) { return t < 0 ? -t : t; }
 
-/* The sons that a line meets, of a block that it meets: the turn at each of the nine corners is that at the middle,
-** and a step of half the side north or west. */
+static bool near(i64 v, i64 r) { return (v <= r) & (-r <= v); }
+
+/* The sons that a line meets, of a block that it meets. A step of half the side north adds up to the turn, a step west
+** adds left. A son's corners are all on one side of the line exactly if the turn at its centre is farther from 0 than
+** from the turn at any of them; with both doubled nothing is halved. */
 static struct met sons_met(struct block k, struct line l) {
   unsigned h = k.side / 2u, x = k.west + h, y = k.south + h;
   struct point middle = {(u16)x, (u16)y};
   i64 c = turn(l.a, l.b, middle), up = ((i64)l.b.x - l.a.x) * (i64)h, left = ((i64)l.b.y - l.a.y) * (i64)h;
-  i64 w = c + left, e = c - left, n = c + up, s = c - up;
+  i64 far = size(up) + size(left), twice = c + c, rising = up + left, falling = up - left;
   bool west = (l.a.x <= x) | (l.b.x <= x), east = (x <= l.a.x) | (x <= l.b.x);
   bool south = (l.a.y <= y) | (l.b.y <= y), north = (y <= l.a.y) | (y <= l.b.y);
   struct met m;
-  m.nw = west & north & !all_one_side(w, c, w + up, n);
-  m.ne = east & north & !all_one_side(c, e, n, e + up);
-  m.sw = west & south & !all_one_side(w - up, s, w, c);
-  m.se = east & south & !all_one_side(s, e - up, c, e);
+  m.nw = west & north & near(twice + rising, far);
+  m.ne = east & north & near(twice + falling, far);
+  m.sw = west & south & near(twice - falling, far);
+  m.se = east & south & near(twice - rising, far);
   return m;
 }
 

@@ -31,11 +31,12 @@ ghost use Rattle.geometry.specs.Means.{blockOf};
 ghost use Rattle.meaning.specs.Column.{labelOf};
 ghost use Rattle.lookup.specs.Asked.{Compared, upperOf, UnderSome, Scannable, ScanIs, Plain, StripOver, SonEntry, Entered, GoneIn, Walking, GoneDown, TakenUp, LeafOver, WalkIs, AtLeaf, Mapped, Ready, OnGrid};
 
-// How many leaves a walk looks at before it gives way to a plain search.
-const LEAVES: u16 = 64;
+// Walks are paid for, so that no list of points takes more than about a quarter longer than plain searches would: a walk
+// costs START to begin with and 1 for each leaf, about the time that a plain search takes over 8 lines. A point brings an
+// eighth of the live lines if its walk answers, and a quarter of that if a plain search has to. At most MOST is kept.
+const START: usize = 4;
 
-// With fewer live lines than these a plain search is faster than a walk.
-const FEW: usize = 24;
+const MOST: usize = 64;
 
 // What a scan of slots finds: the first line through the point; or, where there is none, the best line below.
 enum Scan {
@@ -47,6 +48,12 @@ enum Scan {
 enum Walk {
     Answer(u32),
     Going(Found),
+}
+
+// An answer, and what is left for the next walk.
+struct Reply {
+    answer: u32,
+    left: usize,
 }
 
 // The half of a block that lies over a point: 0 for the west half, 1 for the east, and its two sons.
@@ -142,6 +149,26 @@ fn search_all(lines: &[u16], live: &[u16], p: Point) -> u32
     match scan_slots(lines, live, p, Found::Nothing) {
         Scan::On(s) => answer_on(s),
         Scan::Best(best) => answer_below(lines, best),
+    }
+}
+
+// What is left for the next walk.
+fn earn(left: usize, more: usize) -> usize {
+    if left < MOST {
+        if more < MOST - left {
+            return left + more;
+        }
+    }
+    MOST
+}
+
+fn search_plainly(lines: &[u16], live: &[u16], p: Point, left: usize) -> Reply
+    requires { ⌜ Plain (now lines) (now live) ⌝ }
+    ensures { λ r. ⌜ r .answer ≡ answerAt (now (lines .entry)) p ⌝ }
+{
+    Reply {
+        answer: search_all(lines, live, p),
+        left: earn(left, live.len() / 32),
     }
 }
 
@@ -276,7 +303,7 @@ fn walk_spot(
     walk_leaf(lines, &listings[from..to], p, at.block, c)
 }
 
-// The answer by a walk of the column of leaves over p, from north to south.
+// The answer by a walk of the column of leaves over p, from north to south; after so many leaves a plain search.
 fn walk_column(
     lines: &[u16],
     nodes: &[u16],
@@ -285,28 +312,37 @@ fn walk_column(
     live: &[u16],
     p: Point,
     later: &mut [u16],
-) -> u32
+    leaves: usize,
+) -> Reply
     requires { ⌜ Ready (now lines) (now nodes) (now listings) (now index) (now live) × OnGrid p × (length (now later) ≡ 64) ⌝ }
-    ensures { λ r. ⌜ r ≡ answerAt (now (lines .entry)) p ⌝ }
+    ensures { λ r. ⌜ r .answer ≡ answerAt (now (lines .entry)) p ⌝ }
 {
     let mut at = whole_map();
     let mut best = Found::Nothing;
-    let mut left = LEAVES;
+    let mut left = leaves;
     while 0 < left {
+        left -= 1;
         at = go_down(nodes, index, later, p, at);
         match walk_spot(lines, nodes, listings, index, p, at, best) {
-            Walk::Answer(n) => return n,
+            Walk::Answer(answer) => {
+                return Reply {
+                    answer,
+                    left: earn(left, live.len() / 8),
+                };
+            }
             Walk::Going(d) => {
                 best = d;
             }
         }
         if at.by == 0 {
-            return answer_below(lines, best);
+            return Reply {
+                answer: answer_below(lines, best),
+                left: earn(left, live.len() / 8),
+            };
         }
         at = take_up(later, at.by - 1);
-        left -= 1;
     }
-    search_all(lines, live, p)
+    search_plainly(lines, live, p, left)
 }
 
 // The answer to a point of the grid.
@@ -317,15 +353,25 @@ fn answer_at(
     index: &[u16],
     live: &[u16],
     p: Point,
-) -> u32
+    left: usize,
+) -> Reply
     requires { ⌜ Ready (now lines) (now nodes) (now listings) (now index) (now live) × OnGrid p ⌝ }
-    ensures { λ r. ⌜ r ≡ answerAt (now (lines .entry)) p ⌝ }
+    ensures { λ r. ⌜ r .answer ≡ answerAt (now (lines .entry)) p ⌝ }
 {
-    if live.len() < FEW {
-        return search_all(lines, live, p);
+    if left <= START {
+        return search_plainly(lines, live, p, left);
     }
     let mut later = [0u16; 64];
-    walk_column(lines, nodes, listings, index, live, p, &mut later)
+    walk_column(
+        lines,
+        nodes,
+        listings,
+        index,
+        live,
+        p,
+        &mut later,
+        left - START,
+    )
 }
 
 // The answer to a pair of grid numbers, any 16-bit numbers.
@@ -337,14 +383,18 @@ fn answer_to(
     live: &[u16],
     x: u16,
     y: u16,
-) -> u32
+    left: usize,
+) -> Reply
     requires { ⌜ Ready (now lines) (now nodes) (now listings) (now index) (now live) ⌝ }
-    ensures { λ r. ⌜ r ≡ answerTo (now (lines .entry)) x y ⌝ }
+    ensures { λ r. ⌜ r .answer ≡ answerTo (now (lines .entry)) x y ⌝ }
 {
     if on_grid(x) & on_grid(y) {
-        return answer_at(lines, nodes, listings, index, live, point_of(x, y));
+        return answer_at(lines, nodes, listings, index, live, point_of(x, y), left);
     }
-    4294967295
+    Reply {
+        answer: 4294967295,
+        left,
+    }
 }
 
 // The answers to all points, two numbers each.
@@ -361,8 +411,9 @@ fn answer_each(
     ensures { λ _. ⌜ now (answers .exit) ≡ answersTo (now (lines .entry)) (now (points .entry)) ⌝ }
 {
     let mut at: usize = 0;
+    let mut left: usize = MOST;
     while at < answers.len() {
-        answers[at] = answer_to(
+        let r = answer_to(
             lines,
             nodes,
             listings,
@@ -370,7 +421,10 @@ fn answer_each(
             live,
             points[2 * at],
             points[2 * at + 1],
+            left,
         );
+        answers[at] = r.answer;
+        left = r.left;
         at += 1;
     }
 }

@@ -9,10 +9,10 @@ use Rattle.lookup.proofs.answer_each.Statement.{statement}
 use Rattle.lookup.proofs.answer_each.Tie as tie
 
 abbrev Inv-loop : tie.InvT-loop
-Inv-loop lines nodes listings index live points answers₀ at₀ answers at = (at ≤ length answers₀) × (length answers ≡ length answers₀) × Answered lines points answers at
+Inv-loop lines nodes listings index live points answers₀ at₀ left₀ answers at left = (at ≤ length answers₀) × (length answers ≡ length answers₀) × Answered lines points answers at
 
 abbrev μ-loop : tie.MeasureT-loop
-μ-loop lines nodes listings index live points answers₀ at₀ answers at = length answers₀ - at
+μ-loop lines nodes listings index live points answers₀ at₀ left₀ answers at left = length answers₀ - at
 
 loop-holds : tie.Need-loop-holds Inv-loop μ-loop
 loop-holds c = (search needs, refl, refl)

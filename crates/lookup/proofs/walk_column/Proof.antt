@@ -12,10 +12,10 @@ use Rattle.lookup.proofs.walk_column.Statement.{statement}
 use Rattle.lookup.proofs.walk_column.Tie as tie
 
 abbrev Inv-loop : tie.InvT-loop
-Inv-loop lines nodes listings index live p later₀ at₀ best₀ left₀ later at best left = At-spot lines nodes listings index later p at × Down lines p (northOf at) best × (length later ≡ length later₀)
+Inv-loop lines nodes listings index live p later₀ leaves at₀ best₀ left₀ later at best left = At-spot lines nodes listings index later p at × Down lines p (northOf at) best × (length later ≡ length later₀)
 
 abbrev μ-loop : tie.MeasureT-loop
-μ-loop lines nodes listings index live p later₀ at₀ best₀ left₀ later at best left = left
+μ-loop lines nodes listings index live p later₀ leaves at₀ best₀ left₀ later at best left = left
 
 whole-map-requires : tie.Need-whole-map-requires Inv-loop μ-loop
 whole-map-requires c κs = search needs
@@ -23,20 +23,26 @@ whole-map-requires c κs = search needs
 loop-holds : tie.Need-loop-holds Inv-loop μ-loop
 loop-holds c = let s = c .before .before .before .before .before .before .before in let a = at-start (s .pre .0 .chart) (s .pre .1) (c .whole-map .ensures) in (a, down-start _ _ _ (omega (arith, s .pre .1 .y-most, ap north (c .whole-map .ensures .1))), refl)
 
+sub-left : tie.Need-sub-left Inv-loop μ-loop
+sub-left c = search needs
+
 go-down-requires : tie.Need-go-down-requires Inv-loop μ-loop
 go-down-requires c κs = let l = c .before .before in let s = l .before .before .before .before .before .before .before .before in record { lines = s .args .lines .now; listings = s .args .listings .now; column = l .loop .inv .0; room = l .loop .inv .2 ∙ s .pre .2 }
 
 walk-spot-requires : tie.Need-walk-spot-requires Inv-loop μ-loop
 walk-spot-requires c κs = let g = c .before .before in let l = g .before .before .before .loop .inv in let d = g .go-down .ensures in let a = d .came .stands (l .0) in record { placed = a .placed; whole = d .whole; south-of = a .south-of; down = d .came .down (l .0) (l .1) }
 
-enum-known-n : tie.Need-enum-known-n Inv-loop μ-loop
-enum-known-n c = search needs
+enum-known-answer : tie.Need-enum-known-answer Inv-loop μ-loop
+enum-known-answer c = search needs
+
+earn-requires : tie.Need-earn-requires Inv-loop μ-loop
+earn-requires c κs = search needs
 
 same-length : tie.Need-same-length Inv-loop μ-loop
 same-length c = search needs
 
 returns : tie.Need-returns Inv-loop μ-loop
-returns c = rw (c .before .n .given .1) at (c .before .before .before .walk-spot .ensures)
+returns c = let k = c .before in rw (k .before .answer .given .1) at (k .before .before .before .walk-spot .ensures)
 
 enum-known-d : tie.Need-enum-known-d Inv-loop μ-loop
 enum-known-d c = search needs
@@ -44,11 +50,14 @@ enum-known-d c = search needs
 answer-below-requires : tie.Need-answer-below-requires Inv-loop μ-loop
 answer-below-requires c κs = let w = c .before .before in let s = w .before .before .before .before .before .before .before .before .before .before .before .before .before .before .before .before .before in let l = w .before .before .before .before .before .before .before .before .before .loop .inv in let g = w .before .before .before .before .before .before .go-down in let a = g .ensures .came .stands (l .0) in let d : Down (s .args .lines .now) (s .args .p) _ _ = rw (w .before .d .given .1) at (w .before .before .before .walk-spot .ensures) in record { point = s .args .p; under = d .under }
 
+earn-requires-2 : tie.Need-earn-requires-2 Inv-loop μ-loop
+earn-requires-2 c κs = search needs
+
 same-length-2 : tie.Need-same-length-2 Inv-loop μ-loop
 same-length-2 c = search needs
 
 returns-2 : tie.Need-returns-2 Inv-loop μ-loop
-returns-2 c = let w = c .before .before .before in let s = w .before .before .before .before .before .before .before .before .before .before .before .before .before .before .before .before .before in let l = w .before .before .before .before .before .before .before .before .before .loop .inv in let g = w .before .before .before .before .before .before .go-down in let a = g .ensures .came .stands (l .0) in let d : Down (s .args .lines .now) (s .args .p) _ _ = rw (w .before .d .given .1) at (w .before .before .before .walk-spot .ensures) in c .answer-below .ensures ∙ down-end (s .pre .0 .chart .map .sound .apart) (s .pre .1 .y-least) (subst (λ (S : ℕ). Down (s .args .lines .now) (s .args .p) S (w .before .d .given .0 .0)) (grounded (a .put-by) (c .before .if1 .taken)) d)
+returns-2 c = let b = c .before in let w = b .before .before .before in let s = w .before .before .before .before .before .before .before .before .before .before .before .before .before .before .before .before .before in let l = w .before .before .before .before .before .before .before .before .before .loop .inv in let g = w .before .before .before .before .before .before .go-down in let a = g .ensures .came .stands (l .0) in let d : Down (s .args .lines .now) (s .args .p) _ _ = rw (w .before .d .given .1) at (w .before .before .before .walk-spot .ensures) in b .answer-below .ensures ∙ down-end (s .pre .0 .chart .map .sound .apart) (s .pre .1 .y-least) (subst (λ (S : ℕ). Down (s .args .lines .now) (s .args .p) S (w .before .d .given .0 .0)) (grounded (a .put-by) (b .before .if1 .taken)) d)
 
 sub-take-up : tie.Need-sub-take-up Inv-loop μ-loop
 sub-take-up c = let z = c .before .before .if1 .left in search needs
@@ -56,17 +65,14 @@ sub-take-up c = let z = c .before .before .if1 .left in search needs
 take-up-requires : tie.Need-take-up-requires Inv-loop μ-loop
 take-up-requires c κs = let w = c .before .before .before .before in let s = w .before .before .before .before .before .before .before .before .before .before .before .before .before .before .before .before .before in let l = w .before .before .before .before .before .before .before .before .before .loop .inv in let g = w .before .before .before .before .before .before .go-down in let a = g .ensures .came .stands (l .0) in omega (arith, a .few, g .kept .1 .1 .0 ∙ l .2 ∙ s .pre .2)
 
-sub-left : tie.Need-sub-left Inv-loop μ-loop
-sub-left c = search needs
-
 loop-less : tie.Need-loop-less Inv-loop μ-loop
 loop-less c = search needs
 
 loop-again : tie.Need-loop-again Inv-loop μ-loop
 loop-again c = let w = c .before .before .before .before .before in let s = w .before .before .before .before .before .before .before .before .before .before .before .before .before .before .before .before .before in let l = w .before .before .before .before .before .before .before .before .before .loop .inv in let g = w .before .before .before .before .before .before .go-down in let a = g .ensures .came .stands (l .0) in let d : Down (s .args .lines .now) (s .args .p) _ _ = rw (w .before .d .given .1) at (w .before .before .before .walk-spot .ensures) in let z : suc (g .result .by - 1) ≡ g .result .by = omega (arith, c .before .before .before .if1 .left) in let t = taken (a .put-by) (a .south-of) z (c .take-up .ensures) in (t .0, subst (λ (S : ℕ). Down (s .args .lines .now) (s .args .p) S (w .before .d .given .0 .0)) (sym (t .1)) d, g .kept .1 .1 .0 ∙ l .2)
 
-search-all-requires : tie.Need-search-all-requires Inv-loop μ-loop
-search-all-requires c κs = search needs
+search-plainly-requires : tie.Need-search-plainly-requires Inv-loop μ-loop
+search-plainly-requires c κs = search needs
 
 same-length-3 : tie.Need-same-length-3 Inv-loop μ-loop
 same-length-3 c = search needs
@@ -82,20 +88,22 @@ walk-column-spec =
     μ-loop
     whole-map-requires
     loop-holds
+    sub-left
     go-down-requires
     walk-spot-requires
-    enum-known-n
+    enum-known-answer
+    earn-requires
     same-length
     returns
     enum-known-d
     answer-below-requires
+    earn-requires-2
     same-length-2
     returns-2
     sub-take-up
     take-up-requires
-    sub-left
     loop-less
     loop-again
-    search-all-requires
+    search-plainly-requires
     same-length-3
     returns-3)
