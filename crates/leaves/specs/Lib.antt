@@ -1,3 +1,5 @@
 pub mod Pass
 pub mod Read
 pub mod Exact
+pub mod Fans
+pub mod Sides

@@ -1,79 +1,65 @@
-use mathlib.Core.Path.{_≡_, sym, ap, _∙_}
-use mathlib.Core.Bool.{not}
-use Prim.Native.Nat.{_-_}
+use Prim.Native.Nat.{_<_}
+use lib.ListN.{length}
+use mathlib.Core.Path.{sym, _∙_}
+use native.Mathlib.Omega.{arith}
+use Rattle.leaves.proofs.Turns.{good-at}
+use Rattle.leaves.proofs.Fan.{not-few, not-long}
 use borrow.Author.Needs.{needs}
-use lib.ListN.{length, drop, drop-of-length-le}
-use Rattle.leaves.specs.Pass.{leafApart}
-use Rattle.leaves.proofs.Turns.{good-at, good-rest, line-proper, apart-turn}
 use Rattle.leaves.proofs.leaf_conflicts.Statement.{statement}
 use Rattle.leaves.proofs.leaf_conflicts.Tie as tie
 
-abbrev Inv-loop : tie.InvT-loop
-Inv-loop lines slots next₀ next = leafApart lines slots ≡ leafApart lines (drop next slots)
+pairs-conflict-requires : tie.Need-pairs-conflict-requires
+pairs-conflict-requires c κs = search needs
 
-abbrev μ-loop : tie.MeasureT-loop
-μ-loop lines slots next₀ next = length slots - next
+returns : tie.Need-returns
+returns c = search needs
 
-loop-holds : tie.Need-loop-holds Inv-loop μ-loop
-loop-holds c = search needs
+shared-slice-read-line-at : tie.Need-shared-slice-read-line-at
+shared-slice-read-line-at c = omega (arith, not-few)
 
-mul-line-at : tie.Need-mul-line-at Inv-loop μ-loop
-mul-line-at c = search needs
+line-at-requires : tie.Need-line-at-requires
+line-at-requires c κs =
+    let s = c .before .before .before .before in
+    let h : 0 < length (s .args .slots .now) = omega (arith, not-few) in
+    good-at (s .pre) h .onMap
 
-shared-slice-read-line-at : tie.Need-shared-slice-read-line-at Inv-loop μ-loop
-shared-slice-read-line-at c = search needs
+all-end-at-requires : tie.Need-all-end-at-requires
+all-end-at-requires c κs = search needs
 
-line-at-requires : tie.Need-line-at-requires Inv-loop μ-loop
-line-at-requires c κs = let l = c .before .before in good-at (l .before .before .before .pre) (c .before .loop-test .taken) .onMap
+fan-conflicts-requires : tie.Need-fan-conflicts-requires
+fan-conflicts-requires c κs = record { good = c .before .before .before .before .before .before .before .pre; ends = sym (c .before .all-end-at .ensures) ∙ c .if2 .taken; few = omega (arith, not-long) }
 
-add-next : tie.Need-add-next Inv-loop μ-loop
-add-next c = search needs
+returns-2 : tie.Need-returns-2
+returns-2 c = search needs
 
-mul-conflicts-with : tie.Need-mul-conflicts-with Inv-loop μ-loop
-mul-conflicts-with c = search needs
+all-end-at-requires-2 : tie.Need-all-end-at-requires-2
+all-end-at-requires-2 c κs = search needs
 
-sub-conflicts-with : tie.Need-sub-conflicts-with Inv-loop μ-loop
-sub-conflicts-with c = search needs
+fan-conflicts-requires-2 : tie.Need-fan-conflicts-requires-2
+fan-conflicts-requires-2 c κs = record { good = c .before .before .before .before .before .before .before .before .before .pre; ends = sym (c .before .all-end-at2 .ensures) ∙ c .if3 .taken; few = omega (arith, not-long) }
 
-part-conflicts-with-start : tie.Need-part-conflicts-with-start Inv-loop μ-loop
-part-conflicts-with-start c = search needs
+returns-3 : tie.Need-returns-3
+returns-3 c = search needs
 
-part-conflicts-with-end : tie.Need-part-conflicts-with-end Inv-loop μ-loop
-part-conflicts-with-end c = search needs
+pairs-conflict-requires-2 : tie.Need-pairs-conflict-requires-2
+pairs-conflict-requires-2 c κs = search needs
 
-conflicts-with-requires : tie.Need-conflicts-with-requires Inv-loop μ-loop
-conflicts-with-requires c κs = let w = c .before .before .before in let g = w .before .before .before .before .pre in (good-rest _ g, line-proper (c .before .line-at .ensures) (good-at g (w .loop-test .taken)))
-
-returns : tie.Need-returns Inv-loop μ-loop
-returns c = let w = c .before .before .before .before .before in sym (ap not (w .before .loop .inv ∙ apart-turn _ _ _ (w .loop-test .taken) (c .before .before .before .line-at .ensures) (sym (c .if1 .taken) ∙ c .before .conflicts-with .ensures)))
-
-loop-less : tie.Need-loop-less Inv-loop μ-loop
-loop-less c = search needs
-
-loop-again : tie.Need-loop-again Inv-loop μ-loop
-loop-again c = let w = c .before .before .before .before .before in w .before .loop .inv ∙ apart-turn _ _ _ (w .loop-test .taken) (c .before .before .before .line-at .ensures) (sym (c .if1 .left) ∙ c .before .conflicts-with .ensures)
-
-returns-2 : tie.Need-returns-2 Inv-loop μ-loop
-unfolding leafApart
-returns-2 c = let l = c .before in let s = l .before .before .before in sym (ap not (l .loop .inv ∙ ap (leafApart (s .args .lines .now)) (drop-of-length-le _ (c .loop-test .left))))
+returns-4 : tie.Need-returns-4
+returns-4 c = search needs
 
 pub leaf-conflicts-spec : {M : Type 1} → statement M
 leaf-conflicts-spec =
     tie.close
     (tie.spec
-    Inv-loop
-    μ-loop
-    loop-holds
-    mul-line-at
+    pairs-conflict-requires
+    returns
     shared-slice-read-line-at
     line-at-requires
-    add-next
-    mul-conflicts-with
-    sub-conflicts-with
-    part-conflicts-with-start
-    part-conflicts-with-end
-    conflicts-with-requires
-    returns
-    loop-less
-    loop-again
-    returns-2)
+    all-end-at-requires
+    fan-conflicts-requires
+    returns-2
+    all-end-at-requires-2
+    fan-conflicts-requires-2
+    returns-3
+    pairs-conflict-requires-2
+    returns-4)
