@@ -1,11 +1,12 @@
 -- The test of each leaf for itself is exact: no two lines of one leaf conflict exactly if no two live lines do.
-use mathlib.Core.Path.{_≡_, refl, sym, _∙_, ap, subst}
+use mathlib.Core.Path.{_≡_, refl, sym, _∙_, ap, ap₂, subst}
 use mathlib.Core.Logic.{_⊎_, inl, inr, ⊎-elim}
 use mathlib.Core.Bool.{true, false, not}
-use mathlib.Core.List.{List, [], _∷_, _++_, List·Memᴰ, List·Memᴰ·head, List·Memᴰ·tail, List·Memᴰ·not-nil, List·Memᴰ·append-cases, Memᴰ·append-left}
-use Prim.Native.Nat.{ℕ, zero, suc, _+_, _-_, _≤_}
+use mathlib.Core.List.{List, [], _∷_, _++_, append-nil, List·Memᴰ, List·Memᴰ·head, List·Memᴰ·tail}
+use Prim.Native.Nat.{ℕ, _-_, _≤_}
 use native.Mathlib.Omega.{arith}
-use lib.ListN.{length, replicate}
+use lib.ListN.{length, take, replicate}
+use lib.Seq.{take-append-seam}
 use borrow.Author.Tests.{not-true}
 use Rattle.algebra.specs.Words.{every, Rising, none, one, padded}
 use Rattle.algebra.specs.Lists.{every→, every←, padded-fits}
@@ -20,8 +21,8 @@ use Rattle.meaning.specs.Leaves.{listed-iff}
 use Rattle.meaning.specs.Means.{is-tree, live-by-slot}
 use Rattle.meaning.specs.Sound.{conflict-back}
 use Rattle.tables.specs.Sound.{on-map, ends-apart, sound-at, picked}
-use Rattle.leaves.specs.Pass.{clearOf, leafApart, GoodSlot, Good, TreeTables}
-use Rattle.leaves.specs.Read.{leavesOf, Reads, reads-tree, reads-zeros, to-leaves, of-leaves}
+use Rattle.leaves.specs.Pass.{clearOf, leafApart, GoodSlot, Good, TreeUsed}
+use Rattle.leaves.specs.Read.{leavesOf, Reads, ended, reads-tree, to-leaves, of-leaves}
 
 -- ---- one leaf: the pairs tested, each one way, stand for all pairs
 module _ (lines : List ℕ) where
@@ -91,47 +92,26 @@ module _ (rule : Rule) (lines : List ℕ) (ok : every (slotSound lines) (slotsOf
       (λ e. every← (leafApart lines) (leavesOf (treeOf rule lines)) (λ slots m. let l = of-leaves wholeMap (treeOf rule lines) m in
       apart← lines (rises (l .1)) (leaves-exact rule lines ok .1 e (l .0) slots (l .1))))
 
--- ---- the tables as they stand
-in-empty : (n : ℕ) {slots : List ℕ} → List·Memᴰ slots (replicate n []) → slots ≡ []
-in-empty zero m = absurd (List·Memᴰ·not-nil m)
-in-empty (suc n) (List·Memᴰ·head e) = e
-in-empty (suc n) (List·Memᴰ·tail m) = in-empty n m
+-- ---- the tables as they stand: what is used of them reads as the tree's leaves
+module _ {lines nodes listings : List ℕ} {used : ℕ} (t : TreeUsed lines nodes listings used) where
+  abbrev built : Tree
+  built = treeOf (t .tables .rule) lines
 
-module _ {lines nodes listings : List ℕ} (t : TreeTables lines nodes listings) where
-  -- the tree's leaves, and after them, for the entries that are not used, leaves with no line
-  unfoldable pub leavesIn : List (List ℕ)
-  leavesIn = leavesOf (treeOf (t .rule) lines) ++ replicate (length nodes - length (nodesOf (treeOf (t .rule) lines))) []
+  pub used-fits : used ≤ length nodes
+  unfolding nodeTable
+  used-fits = omega (arith, t .count, padded-fits _ _ (sym (ap length (t .tables .nodes-are))))
 
-  pub tables-read : Reads nodes listings leavesIn
-  unfolding leavesIn
+  pub tables-read : Reads (take used nodes) listings (leavesOf built)
   tables-read =
-      subst (λ (ns : List ℕ). Reads ns listings leavesIn) (sym nodes-are)
-      (subst (λ (ls : List ℕ). Reads (nodesOf tr ++ replicate (length nodes - length (nodesOf tr)) 0) ls leavesIn) (sym listings-are)
-      (reads-tree tr (omega (arith, small, t .short)) (reads-zeros (length nodes - length (nodesOf tr)))))
+      subst (λ (ns : List ℕ). Reads ns listings (leavesOf built)) (sym nodes-are)
+      (subst (λ (ls : List ℕ). Reads (nodesOf built) ls (leavesOf built)) (sym listings-are)
+      (simp append-nil at (reads-tree built {nodes = []} {listings = replicate (length listings - length (listingsOf built)) 0} {leaves = []} (omega (arith, small, t .tables .short)) ended)))
     where
-      tr : Tree
-      tr = treeOf (t .rule) lines
+      small : length (listingsOf built) ≤ length listings
+      small = unfold listingTable in (padded-fits _ _ (sym (ap length (t .tables .listings-are))))
 
-      small : length (listingsOf tr) ≤ length listings
-      small = unfold listingTable in (padded-fits _ _ (sym (ap length (t .listings-are))))
+      nodes-are : take used nodes ≡ nodesOf built
+      nodes-are = unfold nodeTable padded in (ap₂ take (t .count) (t .tables .nodes-are) ∙ take-append-seam (nodesOf built) _)
 
-      nodes-are : nodes ≡ nodesOf tr ++ replicate (length nodes - length (nodesOf tr)) 0
-      nodes-are = unfold nodeTable padded in (t .nodes-are)
-
-      listings-are : listings ≡ listingsOf tr ++ replicate (length listings - length (listingsOf tr)) 0
-      listings-are = unfold listingTable padded in (t .listings-are)
-
-  module _ {slots : List ℕ} (m : List·Memᴰ slots leavesIn) where
-    a-leaf : List·Memᴰ slots (leavesOf (treeOf (t .rule) lines)) ⊎ (slots ≡ [])
-    unfolding leavesIn
-    a-leaf = ⊎-elim inl (λ n. inr (in-empty (length nodes - length (nodesOf (treeOf (t .rule) lines))) n)) (List·Memᴰ·append-cases (leavesOf (treeOf (t .rule) lines)) m)
-
-  pub tables-good : (slots : List ℕ) → List·Memᴰ slots leavesIn → Good lines slots
-  tables-good slots m s n = ⊎-elim (λ p. leaf-good (t .rule) lines (t .slots) slots p s n) (λ e. absurd (List·Memᴰ·not-nil (subst (λ (zs : List ℕ). List·Memᴰ s zs) e n))) (a-leaf m)
-
-  pub tables-exact : every (leafApart lines) leavesIn ≡ noneConflict lines
-  unfolding leavesIn leafApart
-  tables-exact =
-      both-ways _ _
-      (λ e. sym (leaves-apart (t .rule) lines (t .slots)) ∙ every← (leafApart lines) _ (λ slots m. every→ (leafApart lines) leavesIn e (Memᴰ·append-left _ m)))
-      (λ e. every← (leafApart lines) leavesIn (λ slots m. ⊎-elim (λ p. every→ (leafApart lines) _ (leaves-apart (t .rule) lines (t .slots) ∙ e) p) (λ q. ap (leafApart lines) q) (a-leaf m)))
+      listings-are : listings ≡ listingsOf built ++ replicate (length listings - length (listingsOf built)) 0
+      listings-are = unfold listingTable padded in (t .tables .listings-are)

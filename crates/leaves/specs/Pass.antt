@@ -6,8 +6,8 @@ use Prim.Native.Nat.{ℕ, _≤_}
 use lib.ListN.{length}
 use Rattle.algebra.specs.Words.{every}
 use Rattle.definitions.specs.Shape.{Line, samePoint, conflict}
-use Rattle.definitions.specs.Tables.{lineAt, slotSound, slotsOf, nodeTable, listingTable}
-use Rattle.definitions.specs.Tree.{Rule}
+use Rattle.definitions.specs.Tables.{lineAt, liveLines, slotSound, slotsOf, nodeTable, listingTable}
+use Rattle.definitions.specs.Tree.{Rule, tree, nodesOf}
 use Rattle.tables.specs.Rows.{OnMap}
 
 -- l conflicts with none of the slots' lines
@@ -35,3 +35,8 @@ pub record TreeTables (lines nodes listings : List ℕ) : Type 0 where
   pub nodes-are : nodes ≡ nodeTable rule (length nodes) lines
   pub listings-are : listings ≡ listingTable rule (length listings) lines
   pub short : length listings ≤ 16384
+
+-- the tree takes the first `used` entries of the node table
+pub record TreeUsed (lines nodes listings : List ℕ) (used : ℕ) : Type 0 where
+  pub tables : TreeTables lines nodes listings
+  pub count : used ≡ length (nodesOf (tree (tables .rule) (liveLines lines)))

@@ -2,9 +2,9 @@
 use mathlib.Core.Path.{_≡_, refl, subst}
 use mathlib.Core.Logic.{_⊎_, ⊎-elim}
 use mathlib.Core.List.{List, [], _∷_, _++_, append-assoc, List·Memᴰ, List·Memᴰ·head, List·Memᴰ·append-cases, List·Memᴰ·eq-of-singleton, Memᴰ·append-left, Memᴰ·append-right}
-use Prim.Native.Nat.{ℕ, zero, suc, _+_, _≤_, _<_}
+use Prim.Native.Nat.{ℕ, _+_, _≤_, _<_}
 use native.Mathlib.Omega.{arith}
-use lib.ListN.{length, take, drop, replicate, length-append}
+use lib.ListN.{length, take, drop, length-append}
 use lib.Seq.{take-append-seam, drop-append-seam}
 use Rattle.definitions.specs.Meaning.{LeafAt, here, inNW, inNE, inSW, inSE}
 use Rattle.definitions.specs.Shape.{Block, nwOf, neOf, swOf, seOf}
@@ -34,11 +34,6 @@ reads-tree (divided a b c d) {nodes} {listings} {leaves} h r =
   where
     sizes : length (listingsOf a ++ listingsOf b ++ listingsOf c ++ listingsOf d) ≡ length (listingsOf a) + length (listingsOf b) + length (listingsOf c) + length (listingsOf d)
     sizes = simp length-append
-
--- the entries after the last used are leaves with no line
-pub reads-zeros : (n : ℕ) {listings : List ℕ} → Reads (replicate n 0) listings (replicate n [])
-reads-zeros zero = ended
-reads-zeros (suc n) {listings} = oneLeaf {n = 0} {listings = listings} (λ e. omega arith) (omega arith) (reads-zeros n)
 
 -- ---- they are the leaves that stand in the tree
 pub to-leaves : {k j : Block} {t : Tree} {list : List ℕ} → LeafAt k t j list → List·Memᴰ list (leavesOf t)

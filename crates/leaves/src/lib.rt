@@ -17,7 +17,7 @@ ghost use Rattle.definitions.specs.Tables.{noneConflict};
 ghost use Rattle.geometry.specs.Means.{lineOf};
 ghost use Rattle.leaves.specs.Fans.{leavesLeft};
 ghost use Rattle.leaves.specs.Sides.{endsAt, onSide, Fan, Kept};
-ghost use Rattle.leaves.specs.Pass.{clearOf, leafApart, Good, TreeTables};
+ghost use Rattle.leaves.specs.Pass.{clearOf, leafApart, Good, TreeUsed};
 
 // To test the pairs of fewer lines costs less than to part them.
 const FEW: usize = 12;
@@ -183,14 +183,14 @@ pub fn leaf_conflicts(lines: &[u16], slots: &[u16]) -> bool
     pairs_conflict(lines, slots)
 }
 
-// Two live lines conflict. One pass over the two tree tables; a leaf of 0 or 1 lines needs no test.
-pub fn conflicts_in_leaves(lines: &[u16], nodes: &[u16], listings: &[u16]) -> bool
-    requires { ⌜ TreeTables (now lines) (now nodes) (now listings) ⌝ }
+// Two live lines conflict. One pass over what the tree uses of its two tables; a leaf of 0 or 1 lines needs no test.
+pub fn conflicts_in_leaves(lines: &[u16], nodes: &[u16], listings: &[u16], used: usize) -> bool
+    requires { ⌜ TreeUsed (now lines) (now nodes) (now listings) used ⌝ }
     ensures { λ r. ⌜ r ≡ not (noneConflict (now (lines .entry))) ⌝ }
 {
     let mut at: usize = 0;
     let mut node: usize = 0;
-    while node < nodes.len() {
+    while node < used {
         let n = wide(nodes[node]);
         if n != 65535 {
             let e = at + n;
