@@ -19,7 +19,7 @@ use Rattle.tree.specs.declared.Built.the-variants.{Next, NoRoom}
 use Rattle.tree.specs.Builds.{GoodTable, TreeBuilt}
 use Rattle.tree.specs.Whole.{good-table, TablesAre, tables-are}
 use Rattle.tree.specs.Whole as whole
-use Rattle.leaves.specs.Pass.{TreeTables}
+use Rattle.leaves.specs.Pass.{TreeUsed}
 use Rattle.map.specs.Promise.{tables, Slotted, Comparing}
 use Rattle.map.specs.Soundness.{no-room, other-nodes, other-listings, all-same}
 
@@ -91,14 +91,17 @@ module _ {lines nodes listings built named : List ℕ} (w : Comparing lines node
       listings-differ d = sym (other-listings baseRule (tables lines nodes listings) (sym (ap (sameList listings) (made .listings-are)) ∙ d))
 
       module _ (n : sameList nodes built′ ≡ true) (m : sameList listings named′ ≡ true) where
-        pub to-try : TreeTables lines nodes listings
+        pub to-try : TreeUsed lines nodes listings (p .node)
         to-try =
             record {
-              rule = baseRule;
-              slots = w .slotted .slots;
-              nodes-are = list-same nodes built′ n ∙ made .nodes-are;
-              listings-are = list-same listings named′ m ∙ made .listings-are;
-              short = listings-short lines nodes listings (w .slotted .fit);
+              tables = record {
+                rule = baseRule;
+                slots = w .slotted .slots;
+                nodes-are = list-same nodes built′ n ∙ made .nodes-are;
+                listings-are = list-same listings named′ m ∙ made .listings-are;
+                short = listings-short lines nodes listings (w .slotted .fit);
+              };
+              count = whole.nodes-used b e;
             }
 
         pub tried : {c : Bool} → c ≡ not (noneConflict lines) → not c ≡ sound baseRule (tables lines nodes listings)

@@ -53,7 +53,7 @@ fn built_same(
     requires { ⌜ Comparing (now lines) (now nodes) (now listings) (now built) (now named) ⌝ }
     ensures { λ r. ⌜ r ≡ sound baseRule (tables (now (lines .entry)) (now (nodes .entry)) (now (listings .entry))) ⌝ }
 {
-    let Built::Next(_) = build(lines, built, named) else {
+    let Built::Next(end) = build(lines, built, named) else {
         return false;
     };
     if !same(nodes, built) {
@@ -62,7 +62,7 @@ fn built_same(
     if !same(listings, named) {
         return false;
     }
-    !conflicts_in_leaves(lines, nodes, listings)
+    !conflicts_in_leaves(lines, nodes, listings, end.node)
 }
 
 fn trees_sound(lines: &[u16], nodes: &[u16], listings: &[u16]) -> bool

@@ -56,6 +56,10 @@ module _ {lines nodes listings nodes′ listings′ : List ℕ} {r : Built} (b :
         listings-are = h .listings-are ∙ ap (over 0 ls) g ∙ over-zeros ls m (omega (arith, ap length g, length-replicate {A = ℕ} m 0));
       }
 
+  -- the next place tells how many nodes the tree has
+  pub nodes-used : {p : Place} → r ≡ Next p → p .node ≡ length ns
+  nodes-used {p} e = let h : Grew ns ls origin p nodes listings nodes′ listings′ = by e in omega (arith, h .next-node)
+
   -- whether there is room depends on the tables' lengths alone
   module _ (t : Tables) (n : length (t .nodes) ≡ length nodes) (m : length (t .listings) ≡ length listings) where
     pub has-room : {p : Place} → r ≡ Next p → roomFor baseRule t lines ≡ true
