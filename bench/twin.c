@@ -2,7 +2,7 @@
 ** The tree is built into scratch and compared; conflicts are tested in leaves only; a lookup walks its column of leaves. */
 #include "calls.h"
 
-enum { LEAVES = 64, FEW = 24, LEVELS = 14, STACKED = 57 * SLOTS };
+enum { FEW = 12, DEPTH = 24, START = 4, MOST = 64, LEVELS = 14, STACKED = 57 * SLOTS };
 
 struct met { bool nw, ne, sw, se; };
 struct span { size_t from, to, free; };
@@ -103,16 +103,24 @@ static bool build_block(const struct work *w, struct span c, struct block k, uns
          build_block(w, sons[3], block_of(middle, k.south, h), level - 1, at);
 }
 
-static bool build(const u16 *lines, size_t lines_len, u16 *nodes, size_t nodes_len, u16 *listings, size_t listings_len) {
+static bool build_tree(const u16 *lines, size_t lines_len, u16 *nodes, size_t nodes_len, u16 *listings, size_t listings_len,
+                       size_t *used) {
   u16 slots[STACKED] = {0};
   struct work w = {lines, slots, nodes, listings, nodes_len, listings_len};
   size_t n = live_slots(lines, lines_len / SLOT, slots);
   struct span all = {0, n, n};
   struct place at = {0, 0};
-  return build_block(&w, all, block_of(0, 0, SIDE), LEVELS, &at);
+  bool built = build_block(&w, all, block_of(0, 0, SIDE), LEVELS, &at);
+  *used = at.node;
+  return built;
 }
 
-static bool leaf_conflicts(const u16 *lines, const u16 *slots, size_t count) {
+static bool build(const u16 *lines, size_t lines_len, u16 *nodes, size_t nodes_len, u16 *listings, size_t listings_len) {
+  size_t used;
+  return build_tree(lines, lines_len, nodes, nodes_len, listings, listings_len, &used);
+}
+
+static bool pairs_conflict(const u16 *lines, const u16 *slots, size_t count) {
   for (size_t i = 0; i < count; i++) {
     struct line l = line_at(lines, slots[i]);
     for (size_t j = i + 1; j < count; j++)
@@ -121,9 +129,47 @@ static bool leaf_conflicts(const u16 *lines, const u16 *slots, size_t count) {
   return false;
 }
 
-static bool conflicts_in_leaves(const u16 *lines, const u16 *nodes, size_t nodes_len, const u16 *listings) {
+static bool all_end_at(const u16 *lines, const u16 *slots, size_t count, struct point v) {
+  for (size_t i = 0; i < count; i++) {
+    struct line l = line_at(lines, slots[i]);
+    if (!(same_point(v, l.a) | same_point(v, l.b))) return false;
+  }
+  return true;
+}
+
+/* The slots whose lines leave v on this side of the way to w: at the end that is v the turn is 0. */
+static size_t keep(const u16 *lines, const u16 *slots, size_t count, u16 *kept, struct point v, struct point w, bool side) {
+  size_t n = 0;
+  for (size_t i = 0; i < count; i++) {
+    struct line l = line_at(lines, slots[i]);
+    if (((turn(v, w, l.a) > 0) | (turn(v, w, l.b) > 0)) == side) kept[n++] = slots[i];
+  }
+  return n;
+}
+
+/* Lines on different sides of a way from their common end v never conflict. */
+static bool fan_conflicts(const u16 *lines, const u16 *slots, size_t count, struct point v, unsigned depth) {
+  if (count < FEW || depth == 0) return pairs_conflict(lines, slots, count);
+  struct line l = line_at(lines, slots[depth % 2 == 0 ? count / 2 : count / 4]);
+  struct point w = same_point(l.a, v) ? l.b : l.a;
+  for (int side = 1; side >= 0; side--) {
+    u16 kept[SLOTS] = {0};
+    if (fan_conflicts(lines, kept, keep(lines, slots, count, kept, v, w, side), v, depth - 1)) return true;
+  }
+  return false;
+}
+
+static bool leaf_conflicts(const u16 *lines, const u16 *slots, size_t count) {
+  if (count < FEW || count > SLOTS) return pairs_conflict(lines, slots, count);
+  struct line l = line_at(lines, slots[0]);
+  if (all_end_at(lines, slots, count, l.a)) return fan_conflicts(lines, slots, count, l.a, DEPTH);
+  if (all_end_at(lines, slots, count, l.b)) return fan_conflicts(lines, slots, count, l.b, DEPTH);
+  return pairs_conflict(lines, slots, count);
+}
+
+static bool conflicts_in_leaves(const u16 *lines, const u16 *nodes, size_t used, const u16 *listings) {
   size_t at = 0;
-  for (size_t node = 0; node < nodes_len; node++) {
+  for (size_t node = 0; node < used; node++) {
     size_t n = nodes[node];
     if (n == DIVIDED) continue;
     if (n > 1 && leaf_conflicts(lines, listings + at, n)) return true;
@@ -134,9 +180,10 @@ static bool conflicts_in_leaves(const u16 *lines, const u16 *nodes, size_t nodes
 
 static bool is_sound(READ_TABLES) {
   u16 built[ROOM] = {0}, named[ROOM] = {0};
-  return slots_sound(lines, lines_len / SLOT) && build(lines, lines_len, built, nodes_len, named, listings_len) &&
+  size_t used;
+  return slots_sound(lines, lines_len / SLOT) && build_tree(lines, lines_len, built, nodes_len, named, listings_len, &used) &&
          same(nodes, built, nodes_len) && same(listings, named, listings_len) &&
-         !conflicts_in_leaves(lines, nodes, nodes_len, listings);
+         !conflicts_in_leaves(lines, nodes, used, listings);
 }
 
 /* The map to look points up in, with its index: four entries for each node, the sons of a divided block, or first
@@ -198,32 +245,43 @@ static struct spot go_down(const struct lookup *m, struct point p, struct spot a
   return at;
 }
 
-static u32 walk_column(const struct lookup *m, struct point p) {
+static size_t earn(size_t left, size_t more) { return left + more < MOST ? left + more : MOST; }
+
+/* After so many leaves as are left to look at: a plain search. */
+static u32 walk_column(const struct lookup *m, struct point p, size_t *left) {
   struct walk w = {p, NOTHING, 0};
   struct spot at = {0, 0, 0, SIDE}, later[16] = {{0, 0, 0, 0}};
   size_t by = 0;
-  for (unsigned left = LEAVES; left > 0; left--) {
+  while (*left > 0) {
+    --*left;
     at = go_down(m, p, at, later, &by);
-    if (walk_leaf(m, m->listings + m->index[4 * at.node], m->nodes[at.node], at.south, &w)) return w.answer;
-    if (by == 0) return answer_below(m->lines, w.best);
+    bool found = walk_leaf(m, m->listings + m->index[4 * at.node], m->nodes[at.node], at.south, &w);
+    if (found || by == 0) {
+      *left = earn(*left, m->live_count / 8);
+      return found ? w.answer : answer_below(m->lines, w.best);
+    }
     at = later[--by];
   }
+  *left = earn(*left, m->live_count / 32);
   return search(m->lines, m->live, m->live_count, p);
 }
 
-static u32 answer_at(const struct lookup *m, struct point p) {
-  return m->live_count < FEW ? search(m->lines, m->live, m->live_count, p) : walk_column(m, p);
+/* Walks are paid for: START to begin with and 1 for each leaf. */
+static u32 answer_at(const struct lookup *m, struct point p, size_t *left) {
+  *left = *left > START ? *left - START : 0;
+  return walk_column(m, p, left);
 }
 
 static void answer_all(READ_TABLES, ASKED) {
   u16 index[4 * ROOM] = {0}, live[SLOTS] = {0};
   struct place start = {0, 0};
   struct lookup m = {lines, nodes, listings, index, live, live_slots(lines, lines_len / SLOT, live)};
+  size_t left = MOST;
   (void)nodes_len, (void)listings_len, (void)points_len;
   index_block(nodes, index, start);
   for (size_t i = 0; i < answers_len; i++) {
     unsigned x = points[2 * i], y = points[2 * i + 1];
-    answers[i] = on_grid(x, y) ? answer_at(&m, point_of(x, y)) : UINT32_MAX;
+    answers[i] = on_grid(x, y) ? answer_at(&m, point_of(x, y), &left) : UINT32_MAX;
   }
 }
 
