@@ -60,7 +60,7 @@ valgrind: build/boundary-map
 
 # Measuring: never part of a test.
 BENCH_MAPS = $(patsubst %,bench/maps/%.txt,fields10 fields100 fields300 fields1000 slivers furrows fences fans \
-  hub250 hub500 hub1000)
+  ditches hub250 hub500 hub1000)
 BENCH_HEADERS = bench/calls.h bench/mapfile.h bench/plane.h bench/ways.h include/boundary_map.h
 
 build/bench/bench: bench/bench.c bench/mapfile.c bench/twin.c bench/naive.c $(BENCH_HEADERS) $(LIB)

@@ -82,6 +82,15 @@ static void load(const struct row *rows, size_t count, const char *name) {
   maps[NAIVE] = maps[LIBRARY];
 }
 
+/* Spread over the whole map; on the map of ditches all stand in the ditches, where the columns of leaves are longest. */
+static void choose_points(const char *name) {
+  int in_ditches = strcmp(name, "ditches") == 0;
+  for (size_t i = 0; i < POINTS; i++) {
+    points[2 * i] = (uint16_t)(in_ditches ? 3000 + 5000 * some(3) + 1 + some(39) : some(16384));
+    points[2 * i + 1] = (uint16_t)some(16384);
+  }
+}
+
 /* One line taken and put back, by the first `ways` ways, in either order. */
 static void time_edit(int ways, size_t slot, int turned, const char *name) {
   uint64_t took[WAYS], put[WAYS];
@@ -165,7 +174,7 @@ int main(int argc, char **argv) {
   for (int i = 1; i < argc; i++) {
     size_t count = read_rows(argv[i], rows);
     name_of(argv[i], name, sizeof name);
-    for (size_t p = 0; p < 2 * POINTS; p++) points[p] = (uint16_t)some(16384);
+    choose_points(name);
     load(rows, count, name);
     measure(name, count);
     for (int call = 0; call < CALLS; call++) print_call(name, count, call);

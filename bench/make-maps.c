@@ -99,6 +99,19 @@ static void hub(unsigned apart) {
   }
 }
 
+/* Three upright ditches, 40 steps between their banks, and loose fences: over a point in a ditch stand hundreds of leaves. */
+static void ditches(void) {
+  for (unsigned i = 0; i < 3; i++) {
+    unsigned west = 3000 + 5000 * i;
+    put(west, 10, west, 16370, 1, 2);
+    put(west + 40, 10, west + 40, 16370, 2, 1);
+  }
+  for (unsigned i = 0; i < 4000 && written < 200; i++) {
+    unsigned x = some(16000), y = some(16000);
+    put(x, y, x + some(100), y + some(100), i % 50 + 3, i % 49 + 3);
+  }
+}
+
 static void hub250(void) { hub(8); }
 static void hub500(void) { hub(4); }
 static void hub1000(void) { hub(2); }
@@ -106,7 +119,7 @@ static void hub1000(void) { hub(2); }
 int main(int argc, char **argv) {
   static const struct { const char *name; void (*make)(void); } kinds[] = {
       {"fields10", fields10}, {"slivers", slivers}, {"furrows", furrows}, {"fences", fences},
-      {"fans", fans}, {"hub250", hub250}, {"hub500", hub500}, {"hub1000", hub1000}};
+      {"fans", fans}, {"ditches", ditches}, {"hub250", hub250}, {"hub500", hub500}, {"hub1000", hub1000}};
   if (argc != 2) return fprintf(stderr, "usage: make-maps DIRECTORY\n"), 2;
   for (size_t i = 0; i < sizeof kinds / sizeof kinds[0]; i++) {
     begin(argv[1], kinds[i].name);

@@ -19,7 +19,8 @@ static const struct {
     { "crowd", part_crowd, 1 },         { "deep", part_deep, 1 },           { "handles", part_handles, 1 },
     { "garbage", part_garbage, 1 },     { "one fault", part_one_fault, 1 }, { "noise", part_noise, 1 },
     { "orders", part_orders, 1 },       { "lengths", part_lengths, 1 },     { "room", part_room, 1 },
-    { "large", part_large, 3 },         { "full", part_full, 15 },          { "great fans", part_great_fans, 15 },
+    { "hubs", part_hubs, 1 },           { "large", part_large, 3 },         { "full", part_full, 15 },
+    { "great fans", part_great_fans, 15 },
 };
 
 enum { PARTS = sizeof parts / sizeof *parts };

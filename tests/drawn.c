@@ -664,13 +664,18 @@ void lay_stroke(size_t slot, const struct stroke *s)
         poke(LINES, 8 * slot + k, entries[k]);
 }
 
-static void lay_net(size_t slots)
+static void lay_all(void)
 {
     size_t i;
 
-    begin(slots, PLAIN_ROOM, PLAIN_ROOM);
     for (i = 0; i < net.count; i++)
         lay_stroke(i, &net.fence[i]);
+}
+
+static void lay_net(size_t slots)
+{
+    begin(slots, PLAIN_ROOM, PLAIN_ROOM);
+    lay_all();
     if (!rebuild() || !is_sound())
         fail("a large net is not sound");
 }
@@ -720,6 +725,65 @@ void part_full(void)
     lay_net(PLAIN_SLOTS);
     insert(1, 16000, 16000, 16000, 1, 2);
     ask_large(1);
+}
+
+/* Hubs: the rays of a fan, all in one leaf, in any order. A ray laid over one of them has to be found among them all. */
+
+static void add_ray(int32_t x, int32_t y, int32_t to_x, int32_t to_y)
+{
+    struct stroke *s = &net.fence[net.count++];
+
+    s->x1 = on_grid(x);
+    s->y1 = on_grid(y);
+    s->x2 = on_grid(to_x);
+    s->y2 = on_grid(to_y);
+    s->left = any_label();
+    s->right = any_label();
+    if (one_in(2))
+        turn_over(s);
+}
+
+/* The hub is in the middle of a block; the rays end just outside it, on all four sides. */
+static void make_hub(int32_t west, int32_t south, int32_t side, int32_t apart)
+{
+    int32_t x = west + side / 2, y = south + side / 2, i;
+
+    net.count = 0;
+    for (i = apart; i < side; i += apart) {
+        add_ray(x, y, west + i, south - 1);
+        add_ray(x, y, west + i, south + side);
+        add_ray(x, y, west - 1, south + i);
+        add_ray(x, y, west + side, south + i);
+    }
+}
+
+/* The same way as one of the rays, twice as far. */
+static void add_ray_over(int32_t x, int32_t y)
+{
+    const struct stroke *s = &net.fence[under((uint32_t)net.count)];
+    int32_t over_x = s->x1 + s->x2 - x, over_y = s->y1 + s->y2 - y;
+
+    add_ray(x, y, 2 * over_x - x, 2 * over_y - y);
+}
+
+void part_hubs(void)
+{
+    int32_t side = 16 << under(3), apart = between(1, 3), last = LAST / side - 2;
+    int32_t west = side * between(1, last), south = side * between(1, last);
+    int laid_over = one_in(2);
+
+    make_hub(west, south, side, apart);
+    if (laid_over)
+        add_ray_over(west + side / 2, south + side / 2);
+    shuffle_net();
+    begin(net.count + under(2), PLAIN_ROOM, PLAIN_ROOM);
+    lay_all();
+    if (!rebuild() || is_sound() == laid_over)
+        fail("a hub is not as it was made");
+    ask_points(MOST_POINTS);
+    insert_stroke(&net.fence[under((uint32_t)net.count)]);
+    delete_handle(live_handle());
+    ask_points(MOST_POINTS);
 }
 
 /* Great fans: as many rays as slots, all of them in every block on the way down to the hub. Their tree does not

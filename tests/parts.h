@@ -15,6 +15,7 @@ void part_crowd(void);
 void part_deep(void);
 void part_large(void);
 void part_full(void);
+void part_hubs(void);
 void part_great_fans(void);
 
 /* spoiled.c: handles, lengths, room, and tables that hold anything at all */
