@@ -1,14 +1,14 @@
 -- The order on ℤ, with the sum and the product; and the bridge to the native ℕ, where `omega` proves.
-use mathlib.Core.Path.{_≡_, refl, sym, ap, ap₂, _∙_, subst}
-use mathlib.Core.List.{List, [], _∷_}
+use mathlib.Core.Path.{_≡_, refl, sym, ap, _∙_, subst}
+use mathlib.Core.List.{[], _∷_}
 use mathlib.Core.Bool.{Bool, true, false, not, cond}
-use mathlib.Core.Logic.{_⊎_, inl, inr, _↔_}
+use mathlib.Core.Logic.{_↔_}
 use Prim.Native.Nat.{ℕ, zero, suc, _+_, _*_, _-_, _≤_, _<_}
 use native.Mathlib.Omega.{arith}
 use native.Mathlib.Decide.{decLe, decLt}
-use lib.Dec.{T, ltb, leb, ltb→lt, nltb→le, le→leb, leb→le, lt→ltb}
+use lib.Dec.{T, ltb, ltb→lt, nltb→le, le→leb, leb→le, lt→ltb}
 use lib.IntN.{ℤ, pos, negsuc, negℤ, subℕ, natAbs, _+ℤ_, _*ℤ_, _-ℤ_, +ℤ-idl, +ℤ-idr}
-use lib.Signed.{leZ, ltZ, _≤ℤ_, _<ℤ_, leZ-yes, ltZ-yes}
+use lib.Signed.{_≤ℤ_, _<ℤ_, leZ-yes, ltZ-yes}
 use Rattle.algebra.specs.Solve.{solve, re}
 
 ruleset tests = (ltb→lt, nltb→le, leb→le)

@@ -1,10 +1,10 @@
 -- A polynomial identity of ℤ or ℕ, by reflection: `search` finds the expression from its value, and the normal form decides.
 use mathlib.Core.Path.{_≡_, refl, sym, ap, ap₂, _∙_}
 use mathlib.Core.List.{List, [], _∷_}
-use Prim.Native.Nat.{ℕ, zero, suc, _+_, _*_}
+use Prim.Native.Nat.{ℕ, suc, _+_, _*_}
 use native.Mathlib.Numerals.{add-one}
-use lib.IntN.{ℤ, natAbs, pos, negsuc, negℤ, _+ℤ_, _*ℤ_, _-ℤ_}
-use Rattle.algebra.specs.Ring.{Ex, var, con, _⊕_, _⊗_, _⊟_, ⊝_, ring, normal, valueOf, varAt}
+use lib.IntN.{ℤ, natAbs, pos, negℤ, _+ℤ_, _*ℤ_}
+use Rattle.algebra.specs.Ring.{Ex, var, con, _⊕_, _⊗_, ⊝_, ring, normal, valueOf, varAt}
 
 -- an expression, with its value in the type: `search re` finds it from the value
 pub data Re (ρ : List ℤ) : ℤ → Type 0 where

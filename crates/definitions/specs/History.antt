@@ -1,14 +1,10 @@
 -- Any calls after a start, and their answers.
-use mathlib.Core.Path.{_≡_}
-use mathlib.Core.Logic.{_↔_}
-use mathlib.Core.List.{List, [], _∷_, _++_, map, List·Memᴰ}
-use Prim.Native.Nat.{ℕ, _+_, _*_}
-use Rattle.definitions.specs.declared.Answer.{Answer}
-use Rattle.definitions.specs.declared.Answer.the-variants.{Done, Lengths, Damaged, OffGrid, NoLength, Conflict, NoSlot, NoRoom, UnknownHandle}
+use mathlib.Core.List.{List, [], _∷_}
+use Prim.Native.Nat.{ℕ}
 use Rattle.definitions.specs.declared.Given.{Given}
-use Rattle.definitions.specs.Tree.{Rule, Tree, leaf, divided}
-use Rattle.definitions.specs.Tables.{Tables, generation, x1, y1, x2, y2, leftLabel, rightLabel, liveSlots}
-use Rattle.definitions.specs.Calls.{Reply, reply, insertOf, deleteOf, refusalOf, numberOf}
+use Rattle.definitions.specs.Tree.{Rule}
+use Rattle.definitions.specs.Tables.{Tables}
+use Rattle.definitions.specs.Calls.{Reply, reply, insertOf, deleteOf, numberOf}
 use Rattle.definitions.specs.Lookup.{locateOf, showOf}
 
 -- the calls of one history; locate and show leaf leave the tables

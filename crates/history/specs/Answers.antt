@@ -5,7 +5,7 @@ use Rattle.algebra.specs.Lists.{padded-length}
 use Rattle.algebra.specs.Tests.{and-l, and-r}
 use Rattle.definitions.specs.Calls.{Reply, refusalOf, cleared, insertOf, deleteOf, rebuilt, freed, known}
 use Rattle.definitions.specs.History.{Call, insert, delete, locate, show, replyTo, afterAll}
-use Rattle.definitions.specs.Tables.{Tables, lengthsFit, sound, nodeTable, listingTable}
+use Rattle.definitions.specs.Tables.{Tables, lengthsFit, nodeTable, listingTable}
 use Rattle.definitions.specs.Tree.{Rule}
 use Rattle.meaning.specs.Fair.{Fair}
 use Rattle.meaning.specs.Rules.{fewer}

@@ -7,7 +7,7 @@ use Rattle.definitions.specs.Calls.{cleared}
 use Rattle.definitions.specs.History.{Call, afterAll}
 use Rattle.definitions.specs.Shape.{within, Line, Block, samePoint, isEnd, conflict, parts, gridPoint}
 use Rattle.definitions.specs.Tables.{Tables, liveSlots, lineAt, liveLines, noneConflict}
-use Rattle.definitions.specs.Tree.{leaf, listed, block, tree, Rule, treeBy}
+use Rattle.definitions.specs.Tree.{listed, block, tree, Rule, treeBy}
 use Rattle.meaning.specs.Fair.{SameEnds, Within, Once, noLine, newLine, Fair}
 use Rattle.meaning.specs.Ends.{same-refl}
 use Rattle.meaning.specs.Leaves.{listed-iff}

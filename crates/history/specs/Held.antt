@@ -6,7 +6,7 @@ use Rattle.algebra.specs.Tests.{no-path, and-l, and-r}
 use Rattle.algebra.specs.Words.{those, upFrom, if_then_else_}
 use Rattle.definitions.specs.Calls.{withSlot, Reply, refusalOf, detailOf, cleared, rebuilt, placed, freed, freeSlots, known}
 use Rattle.definitions.specs.History.{Call, insert, delete, locate, show, replyTo, afterAll}
-use Rattle.definitions.specs.Tables.{entry, Tables, live, generation, isLive, slotsOf, liveSlots}
+use Rattle.definitions.specs.Tables.{entry, Tables, generation, isLive, slotsOf, liveSlots}
 use Rattle.definitions.specs.Tree.{Rule}
 use Rattle.meaning.specs.Slots.{put, bare, other-slot, same-or-not, zero-at, zero-dead, gift-lives, as-long, others-live, others-gen, put-at, bare-at, bare-dead, as-long′, rest-live, rest-gen}
 use Rattle.history.specs.Demand.{Held, Heard, heard, heldAt, liveHeld}

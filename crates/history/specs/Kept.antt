@@ -10,7 +10,7 @@ use Rattle.definitions.specs.History.{Call, insert, delete, locate, show, reply
 use Rattle.definitions.specs.Shape.{within, Line, conflict, on, isEnd, parts, leftOf, rightOf}
 use Rattle.definitions.specs.Tables.{Tables, generation, x1, y1, x2, y2, isLive, slotsOf, liveSlots, lineAt, liveLines, liveSound, emptySound, slotSound, noneConflict, nodeTable, listingTable, lengthsFit, sound}
 use Rattle.definitions.specs.Tree.{leaf, listed, tree, nodesOf, listingsOf, Rule}
-use Rattle.meaning.specs.Fair.{keep, Fair}
+use Rattle.meaning.specs.Fair.{Fair}
 use Rattle.meaning.specs.Crossing.{Proper}
 use Rattle.meaning.specs.Rules.{fewer, by-leaf}
 use Rattle.meaning.specs.Changes.{slots-freed, apart-freed, sub-freed, slots-placed}
@@ -21,7 +21,7 @@ use Rattle.history.specs.Ledger.{free-first, Deleted, refused, removed, 
 use mathlib.Core.Path.{_≡_, refl, sym, _∙_, ap}
 use mathlib.Core.Logic.{_⊎_, inl, inr}
 use mathlib.Core.Bool.{Bool, true, false, not, _&&_, _||_}
-use mathlib.Core.List.{List, [], _∷_, map, List·Memᴰ, List·Memᴰ·not-nil}
+use mathlib.Core.List.{List, [], _∷_, List·Memᴰ, List·Memᴰ·not-nil}
 use Prim.Native.Nat.{ℕ, zero, suc, _+_, _*_, _-_, _/_, _%_, _≤_, _<_}
 use native.Mathlib.Omega.{arith}
 use lib.Dec.{leb, ltb, eqb}

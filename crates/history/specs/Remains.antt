@@ -14,7 +14,7 @@ use Rattle.algebra.specs.Lists.{those-yes, those-no}
 use Rattle.algebra.specs.Words.{those, upFrom, padded}
 use Rattle.definitions.specs.Calls.{Reply, refusalOf, deleteOf, rebuilt, freed}
 use Rattle.definitions.specs.Shape.{Line}
-use Rattle.definitions.specs.Tables.{Tables, isLive, slotsOf, liveSlots, lineAt, liveLines, nodeTable, listingTable, live}
+use Rattle.definitions.specs.Tables.{Tables, isLive, slotsOf, liveSlots, lineAt, liveLines, nodeTable, listingTable}
 use Rattle.definitions.specs.Tree.{tree, nodesOf, listingsOf, Rule}
 use Rattle.meaning.specs.Leaves.{slot-of-line}
 use Rattle.meaning.specs.Slots.{same-or-not, bare-dead, as-long′, rest-live, rest-line}

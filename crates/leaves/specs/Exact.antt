@@ -14,7 +14,7 @@ use Rattle.algebra.specs.Tests.{and-l, and-r, and-b, both-ways, false-by, no-pa
 use Rattle.definitions.specs.Meaning.{LeafAt, here, inNW, inNE, inSW, inSE, IsTree, whole, parted}
 use Rattle.definitions.specs.Shape.{Line, Block, wholeMap, conflict}
 use Rattle.definitions.specs.Tables.{isLive, lineAt, liveSlots, liveLines, slotSound, slotsOf, noneConflict, nodeTable, listingTable}
-use Rattle.definitions.specs.Tree.{Rule, Tree, leaf, tree, treeBy, nodesOf, listingsOf}
+use Rattle.definitions.specs.Tree.{Rule, Tree, tree, treeBy, nodesOf, listingsOf}
 use Rattle.meaning.specs.Apart.{leaf-lists, leaves-exact}
 use Rattle.meaning.specs.Crossing.{Proper}
 use Rattle.meaning.specs.Leaves.{listed-iff}

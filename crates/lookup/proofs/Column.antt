@@ -2,7 +2,7 @@
 use mathlib.Core.Path.{_≡_, refl, sym, ap, _∙_, subst}
 use mathlib.Core.Bool.{Bool, true, false}
 use mathlib.Core.List.{List}
-use Prim.Native.Nat.{ℕ, zero, suc, _+_, _*_, _/_, _≤_, _<_}
+use Prim.Native.Nat.{ℕ, suc, _+_, _*_, _≤_, _<_}
 use native.Mathlib.Numerals.{add-one}
 use native.Mathlib.Omega.{arith}
 use lib.ListN.{length, getD}
@@ -13,7 +13,7 @@ use Rattle.geometry.specs.Means.{blockOf}
 use Rattle.meaning.specs.declared.Found.{Found}
 use Rattle.walk.specs.Index.{Entries, Put}
 use Rattle.lookup.specs.declared.Spot.{Spot}
-use Rattle.lookup.specs.Asked.{Down, StripOver, Placed, PutBy, ground, next, Column, At-spot, SonEntry, of-upper, of-lower, Entered, GoneTo, to-upper, to-lower, GoneIn, Walking, Came, TakenUp, northOf, Charted, OnGrid}
+use Rattle.lookup.specs.Asked.{Down, StripOver, PutBy, ground, next, Column, At-spot, SonEntry, of-upper, of-lower, Entered, GoneTo, to-upper, to-lower, GoneIn, Walking, Came, TakenUp, northOf, Charted, OnGrid}
 use Rattle.lookup.proofs.Descent.{down-past}
 use Rattle.lookup.proofs.Seats.{Halves, halves, above-ground, placed-there, map-placed, map-level}
 

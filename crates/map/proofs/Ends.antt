@@ -1,12 +1,12 @@
 -- What a call's last step leaves, over plain lists.
-use mathlib.Core.Path.{_≡_, refl, sym, ap, _∙_}
+use mathlib.Core.Path.{_≡_, sym, _∙_}
 use mathlib.Core.Bool.{true}
 use mathlib.Core.List.{List}
 use Prim.Native.Nat.{ℕ}
 use lib.ListN.{length, replicate}
 use Rattle.definitions.specs.declared.Answer.{Answer}
 use Rattle.definitions.specs.declared.Answer.the-variants.{Done}
-use Rattle.definitions.specs.Tables.{Tables, lengthsFit}
+use Rattle.definitions.specs.Tables.{lengthsFit}
 use Rattle.definitions.specs.Calls.{cleared, startOf, reply}
 use Rattle.map.specs.Promise.{tables, Replies}
 use Rattle.map.specs.Steps.{start-0}

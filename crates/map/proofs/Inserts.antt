@@ -5,13 +5,13 @@ use mathlib.Core.List.{List, List·Memᴰ, List·Memᴰ·head}
 use Prim.Native.Nat.{ℕ, _+_, _*_, _/_, _≤_, _<_}
 use native.Mathlib.Omega.{arith}
 use lib.ListN.{length, replicate, length-replicate}
-use borrow.Author.Tests.{le-leb, leb-true}
+use borrow.Author.Tests.{le-leb}
 use Rattle.algebra.specs.Words.{every}
-use Rattle.algebra.specs.Tests.{no-path, both→, both←}
-use Rattle.definitions.specs.declared.Answer.the-variants.{Done, NoRoom, Conflict}
+use Rattle.algebra.specs.Tests.{no-path, both←}
+use Rattle.definitions.specs.declared.Answer.the-variants.{Done, NoRoom}
 use Rattle.definitions.specs.declared.Given.{Given}
 use Rattle.definitions.specs.Tree.{baseRule, tree, nodesOf, listingsOf}
-use Rattle.definitions.specs.Tables.{Tables, lengthsFit, sound, slotSound, slotsOf, isLive, generation, liveLines, nodeTable, listingTable}
+use Rattle.definitions.specs.Tables.{Tables, slotSound, slotsOf, generation, liveLines, nodeTable, listingTable}
 use Rattle.definitions.specs.Calls.{allOnGrid, noLength, withSlot, placed, freed, rebuilt, roomFor, conflicting, insertOf, deleteOf, known}
 use Rattle.meaning.specs.Changes.{slots-placed, slots-freed, sub-freed}
 use Rattle.meaning.specs.Rules.{fewer, base-fair}
@@ -20,14 +20,14 @@ use Rattle.meaning.specs.Sound.{sound→, fits-nodes, fits-listings}
 use Rattle.tables.specs.declared.Row.{Row}
 use Rattle.tables.specs.declared.Slot.the-variants.{At}
 use Rattle.tables.specs.Rows.{rowAt, rowOf, emptiedRow, entriesOf, placed-is, freed-is}
-use Rattle.tables.specs.Slots.{firstSlotOf, first-at, first-none}
-use Rattle.tables.specs.Sound.{FreeSlot, free-found, KnownSlot, known-slot, picked, Tested}
+use Rattle.tables.specs.Slots.{firstSlotOf, first-at}
+use Rattle.tables.specs.Sound.{FreeSlot, free-found, known-slot, picked, Tested}
 use Rattle.tree.specs.declared.Built.{Built}
 use Rattle.tree.specs.declared.Built.the-variants.{Next, NoRoom as Full}
 use Rattle.tree.specs.Builds.{GoodTable, TreeBuilt}
-use Rattle.tree.specs.Whole.{good-table, TablesAre, tables-are, no-room}
+use Rattle.tree.specs.Whole.{good-table, tables-are, no-room}
 use Rattle.map.specs.Promise.{tables, Replies, Passed, Room, Put, Placing, Taking}
-use Rattle.map.specs.Steps.{insert-0, insert-5, insert-7, delete-0}
+use Rattle.map.specs.Steps.{insert-0, insert-7, delete-0}
 use Rattle.map.proofs.Compared.{lines-short}
 
 module _ {lines nodes listings : List ℕ} (w : Passed lines nodes listings) where

@@ -1,8 +1,8 @@
 -- A row put in place, with room for the tree and without, over plain lists.
 use mathlib.Core.Path.{_≡_, refl, sym, ap, _∙_, subst}
-use mathlib.Core.Bool.{Bool, true, false}
+use mathlib.Core.Bool.{true, false}
 use mathlib.Core.List.{List}
-use Prim.Native.Nat.{ℕ, _+_, _*_, _≤_}
+use Prim.Native.Nat.{ℕ, _≤_}
 use native.Mathlib.Omega.{arith}
 use lib.ListN.{length, take, replicate, length-replicate}
 use lib.Dec.{leb}
@@ -11,7 +11,7 @@ use Rattle.algebra.specs.Words.{over}
 use Rattle.algebra.specs.Tests.{and-l, and-r}
 use Rattle.algebra.specs.Lists.{padded-length}
 use Rattle.definitions.specs.Tree.{baseRule, tree, nodesOf, listingsOf}
-use Rattle.definitions.specs.Tables.{Tables, lengthsFit, liveLines, nodeTable, listingTable}
+use Rattle.definitions.specs.Tables.{Tables, liveLines, nodeTable, listingTable}
 use Rattle.definitions.specs.Calls.{withSlot, rebuilt, roomFor}
 use Rattle.meaning.specs.Slots.{same-length}
 use Rattle.tables.specs.declared.Place.{Place}

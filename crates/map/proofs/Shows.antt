@@ -1,6 +1,6 @@
 -- The leaf that is shown, over plain lists.
-use mathlib.Core.Path.{_≡_, refl, sym, ap, _∙_, subst}
-use mathlib.Core.Bool.{Bool, true, _&&_}
+use mathlib.Core.Path.{_≡_, sym, ap, _∙_, subst}
+use mathlib.Core.Bool.{true, _&&_}
 use mathlib.Core.List.{List, []}
 use Prim.Native.Nat.{ℕ, _+_, _-_, _*_, _≤_}
 use native.Mathlib.Omega.{arith}
@@ -8,12 +8,10 @@ use lib.ListN.{length, take, drop}
 use borrow.Author.Tests.{leb-true}
 use Rattle.algebra.specs.Tests.{both→}
 use Rattle.definitions.specs.declared.Answer.{Answer}
-use Rattle.definitions.specs.declared.Answer.the-variants.{Done}
-use Rattle.definitions.specs.declared.Shown.{Shown}
-use Rattle.definitions.specs.Shape.{gridPoint, wholeMap}
-use Rattle.definitions.specs.Tree.{Tree, baseRule, tree, listingsOf}
+use Rattle.definitions.specs.Shape.{gridPoint}
+use Rattle.definitions.specs.Tree.{Tree, baseRule, tree}
 use Rattle.definitions.specs.Tables.{Tables, liveLines, onGrid}
-use Rattle.definitions.specs.Lookup.{Showing, notShown, shownAt, leafAt, leafOver, showOf}
+use Rattle.definitions.specs.Lookup.{Showing, notShown, shownAt, leafOver, showOf}
 use Rattle.meaning.specs.Sound.{sound→, fits-listings}
 use Rattle.walk.specs.declared.Leaf.{Leaf}
 use Rattle.walk.specs.Index.{leafOf, Standing, Indexed, Walkable, Searchable, LeafOver}

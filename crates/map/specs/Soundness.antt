@@ -1,8 +1,6 @@
 -- A map whose slots are sound: what building the tree anew, comparing and trying the lines says of the whole.
 use mathlib.Core.Path.{_≡_, refl, sym, _∙_}
 use mathlib.Core.Bool.{Bool, true, false, _&&_}
-use mathlib.Core.List.{List}
-use Prim.Native.Nat.{ℕ}
 use lib.ListN.{length}
 use borrow.Author.Tests.{le-leb}
 use Rattle.algebra.specs.Words.{every, sameList}

@@ -10,7 +10,7 @@ use Rattle.definitions.specs.declared.Given.{Given}
 use Rattle.definitions.specs.Tree.{Rule}
 use Rattle.definitions.specs.Tables.{Tables, lengthsFit, sound, generation, onGrid}
 use Rattle.definitions.specs.Calls.{reply, cleared, startOf, allOnGrid, noLength, conflicting, freeSlots, placed, known, freed, rebuilt, roomFor, insertOf, deleteOf}
-use Rattle.definitions.specs.Lookup.{answersTo, locateOf, Showing, notShown, shownAt, leafOver, showOf}
+use Rattle.definitions.specs.Lookup.{answersTo, locateOf, notShown, shownAt, leafOver, showOf}
 
 pub start-1 : (t : Tables) → lengthsFit t ≡ false → startOf t ≡ reply Lengths t
 unfolding startOf

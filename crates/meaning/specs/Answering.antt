@@ -16,7 +16,7 @@ use Rattle.algebra.specs.Words.{those, every, upFrom, if_then_else_}
 use Rattle.definitions.specs.Lookup.{below, run, higher, highest, upperLabel, answerAt, answerTo}
 use Rattle.definitions.specs.Meaning.{spotOf, CountsBelow, NoneHigher, Live, Through, Answers, upon, under, outside, AnswersTo, offGrid, within}
 use Rattle.definitions.specs.Shape.{Line, gridPoint, conflict, on}
-use Rattle.definitions.specs.Tables.{live, isLive, slotsOf, lineAt, liveSlots, liveLines, onGrid, noneConflict}
+use Rattle.definitions.specs.Tables.{isLive, slotsOf, lineAt, liveSlots, liveLines, onGrid, noneConflict}
 use Rattle.meaning.specs.Compare.{order}
 use Rattle.meaning.specs.Crossing.{spot-on, on→, on←}
 use Rattle.meaning.specs.Height.{counts-below, over-is, below→, none-higher→, none-higher←}

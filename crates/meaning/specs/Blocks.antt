@@ -1,9 +1,9 @@
 -- The four sons of a block of the tree are the tree's blocks one level down.
-use mathlib.Core.Path.{_≡_, refl, sym}
+use mathlib.Core.Path.{_≡_}
 use Prim.Native.Nat.{ℕ, zero, suc, _+_, _*_, _/_, _^_, _≤_}
 use native.Mathlib.Nat.{pow-suc}
 use native.Mathlib.Omega.{arith}
-use Rattle.definitions.specs.Shape.{Block, nwOf, neOf, swOf, seOf}
+use Rattle.definitions.specs.Shape.{nwOf, neOf, swOf, seOf}
 use Rattle.definitions.specs.Tree.{block}
 
 pub double : (n : ℕ) → 2 ^ suc n ≡ 2 ^ n + 2 ^ n

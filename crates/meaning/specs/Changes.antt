@@ -5,15 +5,14 @@ use Rattle.algebra.specs.Tests.{no-path, and-l, and-r, and-b, or-l, or-r}
 use Rattle.algebra.specs.Words.{those, every}
 use Rattle.definitions.specs.Calls.{placed, freed, allOnGrid, noLength}
 use Rattle.definitions.specs.Shape.{conflict}
-use Rattle.definitions.specs.Tables.{generation, x1, y1, x2, y2, isLive, slotsOf, liveSlots, lineAt, liveLines, onGrid, liveSound, emptySound, slotSound, noneConflict, sound}
+use Rattle.definitions.specs.Tables.{generation, x1, y1, x2, y2, isLive, slotsOf, liveSlots, lineAt, liveLines, onGrid, liveSound, emptySound, slotSound, noneConflict}
 use Rattle.meaning.specs.Fair.{Sub, none, keep, skip}
-use Rattle.meaning.specs.Rules.{fewer}
 use Rattle.meaning.specs.Slots.{same-or-not, freed-slots, rest-sound, rest-live, placed-slots, others-sound, bare-at, bare-dead, rest-line, put-at, gift-lives}
 use mathlib.Core.Path.{_≡_, refl, sym, _∙_, ap, subst}
 use mathlib.Core.Logic.{_⊎_, inl, inr}
 use mathlib.Core.Bool.{Bool, true, false, not, _&&_, _||_}
 use mathlib.Core.List.{List, [], _∷_, map, List·Memᴰ}
-use Prim.Native.Nat.{ℕ, _+_, _*_, _-_, _≤_}
+use Prim.Native.Nat.{ℕ, _+_, _*_, _≤_}
 use native.Mathlib.Omega.{arith}
 use lib.Dec.{leb, eqb}
 use lib.ListN.{length}

@@ -9,7 +9,7 @@ use Rattle.algebra.specs.Tests.{or-cases}
 use Rattle.algebra.specs.Signs.{zero-is, zero-of-equal}
 use Rattle.definitions.specs.declared.Point.{Point}
 use Rattle.definitions.specs.Shape.{Line, minX, maxX, minY, maxY, samePoint, isEnd, on, within}
-use Rattle.definitions.specs.Meaning.{spotOf, Spot, OnLine, AtPoint, AtEnd}
+use Rattle.definitions.specs.Meaning.{spotOf, OnLine, AtPoint, AtEnd}
 use Rattle.meaning.specs.Turns.{lefts, rights, turn-is}
 use Rattle.meaning.specs.Says.{both, either, unless, le-says, eq-says}
 use Rattle.meaning.specs.Segments.{turnAt-is, straight-of, Proper, Weighed, weighed-line, no-end}

@@ -11,7 +11,7 @@ use Rattle.definitions.specs.declared.Point.{Point}
 use Rattle.algebra.specs.Signs.{positive-is, equal-of-zero, zero-of-equal}
 use Rattle.algebra.specs.Tests.{and-l, and-r, and-b}
 use Rattle.algebra.specs.Words.{if_then_else_, isPositive}
-use Rattle.definitions.specs.Lookup.{westEnd, eastEnd, below, run, heightOver, higher}
+use Rattle.definitions.specs.Lookup.{westEnd, eastEnd, below, run, heightOver}
 use Rattle.definitions.specs.Meaning.{Spot, OnLine, Steeper, PointOver, CountsBelow, NoneHigher}
 use Rattle.definitions.specs.Shape.{Line, minX, maxX, turn}
 use Rattle.meaning.specs.Compare.{order}

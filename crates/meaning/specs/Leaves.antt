@@ -13,7 +13,7 @@ use Rattle.algebra.specs.Signs.{zero-of-equal}
 use Rattle.algebra.specs.Tests.{no-path, and-l, and-r, or-l, or-r, false-by}
 use Rattle.algebra.specs.Words.{those, every}
 use Rattle.definitions.specs.Meaning.{Spot, OnLine, InBlock, LeafAt, here, inNW, inNE, inSW, inSE}
-use Rattle.definitions.specs.Shape.{Line, Block, meets, inside, conflict, wholeMap, on}
+use Rattle.definitions.specs.Shape.{Line, Block, meets, inside, conflict, wholeMap}
 use Rattle.definitions.specs.Tables.{live, generation, x1, y1, x2, y2, isLive, slotsOf, liveSlots, lineAt, liveLines, onGrid, liveSound, emptySound, slotSound, noneConflict}
 use Rattle.definitions.specs.Tree.{endsOf, simpleWith, simple, Tree, leaf, divided, listed, block, tree, Rule, treeBy, baseRule}
 use Rattle.meaning.specs.Blocks.{double, nw-is, ne-is, sw-is, se-is}

@@ -9,8 +9,7 @@ use borrow.Author.Tests.{leb-true}
 use Rattle.algebra.specs.Words.{those, if_then_else_}
 use Rattle.algebra.specs.Tests.{and-l, and-r}
 use Rattle.definitions.specs.declared.Point.{Point}
-use Rattle.meaning.specs.declared.Found.{Found}
-use Rattle.meaning.specs.declared.Found.the-variants.{Nothing, At}
+use Rattle.meaning.specs.declared.Found.the-variants.{Nothing}
 use Rattle.meaning.specs.declared.Look.{Look}
 use Rattle.definitions.specs.Shape.{Line, gridPoint, on}
 use Rattle.definitions.specs.Tree.{Rule}

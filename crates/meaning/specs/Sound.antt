@@ -2,15 +2,14 @@
 use Rattle.algebra.specs.Lists.{same-list, list-same, padded-fits}
 use Rattle.algebra.specs.Tests.{false-by, no-path, and-l, and-r, and-b}
 use Rattle.algebra.specs.Words.{every, sameList}
-use Rattle.definitions.specs.Calls.{rebuilt}
-use Rattle.definitions.specs.Shape.{Line, gridPoint, samePoint, conflict, on}
+use Rattle.definitions.specs.Shape.{Line, gridPoint, samePoint, conflict}
 use Rattle.definitions.specs.Tables.{Tables, live, generation, x1, y1, x2, y2, leftLabel, rightLabel, isLive, slotsOf, lineAt, liveLines, onGrid, liveSound, emptySound, slotSound, noneConflict, nodeTable, listingTable, sound}
 use Rattle.definitions.specs.Tree.{tree, nodesOf, listingsOf, Rule}
 use Rattle.meaning.specs.Crossing.{Proper, conflict-iff}
 use mathlib.Core.Path.{_≡_, refl, sym, _∙_, ap, subst}
 use mathlib.Core.Bool.{Bool, true, false, not, _&&_, _||_}
-use mathlib.Core.List.{List, map}
-use Prim.Native.Nat.{ℕ, _+_, _*_, _-_, _≤_}
+use mathlib.Core.List.{List}
+use Prim.Native.Nat.{ℕ, _+_, _*_, _≤_}
 use native.Mathlib.Omega.{arith}
 use lib.Dec.{leb, eqb}
 use lib.ListN.{length}

@@ -8,7 +8,7 @@ use native.Mathlib.Omega.{arith}
 use lib.Dec.{ltb}
 use lib.ListN.{length, getD, drop, replicate, length-append, length-map}
 use lib.Seq.{drop-drop, drop-append-seam, getD-drop}
-use Rattle.algebra.specs.Words.{those, upFrom, padded}
+use Rattle.algebra.specs.Words.{upFrom, padded}
 use Rattle.algebra.specs.Lists.{those-length, upFrom-length, padded-fits}
 use Rattle.definitions.specs.declared.Point.{Point}
 use Rattle.definitions.specs.Shape.{Line, Block, meets, nwOf, neOf, swOf, seOf}

@@ -13,8 +13,6 @@ use Rattle.algebra.specs.Words.{isNegative}
 use Rattle.geometry.specs.Bits.{zero-holds, near-says}
 use Rattle.geometry.proofs.near.Statement.{statement}
 use Rattle.geometry.proofs.near.Tie as tie
-use Rattle.geometry.proofs.near.Reads as reads
-use Rattle.geometry.proofs.near.Lts as lts
 
 within : (r : ℤ) → isNegative r ≡ false → SFits w64 r → natAbs r ≤ 9223372036854775807
 within (pos n) e f = omega (arith, f .sfits)

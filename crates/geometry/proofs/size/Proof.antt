@@ -8,8 +8,6 @@ use Rattle.algebra.specs.Machine.{Holds, holds, sub-fits, sub-holds}
 use Rattle.geometry.specs.Bits.{right-says, zero-holds, size-below, size-else}
 use Rattle.geometry.proofs.size.Statement.{statement}
 use Rattle.geometry.proofs.size.Tie as tie
-use Rattle.geometry.proofs.size.Reads as reads
-use Rattle.geometry.proofs.size.Lts as lts
 
 t-holds : (c : tie.Start) → Holds w64 (ofZ w64 (c .args .t)) (c .args .t) 9223372036854775807
 t-holds c = holds (c .fits .t) (omega (arith, c .pre))

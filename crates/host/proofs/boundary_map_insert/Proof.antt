@@ -2,32 +2,22 @@ use Rattle.host.proofs.Told.{tells}
 use borrow.Author.Needs.{needs}
 use Rattle.host.proofs.boundary_map_insert.Statement.{statement}
 use Rattle.host.proofs.boundary_map_insert.Tie as tie
-use Rattle.host.proofs.boundary_map_insert.Reads as reads
-use Rattle.host.proofs.boundary_map_insert.Lts as lts
-use Rattle.host.proofs.number.Reads as number-reads
-use Rattle.map.proofs.insert.Reads as insert-reads
 
--- src/lib.rt:62:12
 insert-requires : tie.Need-insert-requires
 insert-requires c κs = search needs
 
--- src/lib.rt:62:5
 number-requires : tie.Need-number-requires
 number-requires c κs = search needs
 
--- src/lib.rt:39:1
 same-length : tie.Need-same-length
 same-length c = search needs
 
--- src/lib.rt:39:1
 same-length-2 : tie.Need-same-length-2
 same-length-2 c = search needs
 
--- src/lib.rt:39:1
 same-length-3 : tie.Need-same-length-3
 same-length-3 c = search needs
 
--- src/lib.rt:39:1
 returns : tie.Need-returns
 returns c = tells (c .number .ensures) (c .before .before .before .before .before .before .before .insert .ensures)
 

@@ -2,32 +2,22 @@ use Rattle.host.proofs.Told.{tells}
 use borrow.Author.Needs.{needs}
 use Rattle.host.proofs.boundary_map_start.Statement.{statement}
 use Rattle.host.proofs.boundary_map_start.Tie as tie
-use Rattle.host.proofs.boundary_map_start.Reads as reads
-use Rattle.host.proofs.boundary_map_start.Lts as lts
-use Rattle.host.proofs.number.Reads as number-reads
-use Rattle.map.proofs.start.Reads as start-reads
 
--- src/lib.rt:36:12
 start-requires : tie.Need-start-requires
 start-requires c κs = search needs
 
--- src/lib.rt:36:5
 number-requires : tie.Need-number-requires
 number-requires c κs = search needs
 
--- src/lib.rt:28:1
 same-length : tie.Need-same-length
 same-length c = search needs
 
--- src/lib.rt:28:1
 same-length-2 : tie.Need-same-length-2
 same-length-2 c = search needs
 
--- src/lib.rt:28:1
 same-length-3 : tie.Need-same-length-3
 same-length-3 c = search needs
 
--- src/lib.rt:28:1
 returns : tie.Need-returns
 returns c = tells (c .number .ensures) (c .before .before .before .before .before .before .before .start .ensures)
 

@@ -4,90 +4,67 @@ use Rattle.definitions.specs.Calls.{numberOf}
 use borrow.Author.Needs.{needs}
 use Rattle.host.proofs.number.Statement.{statement}
 use Rattle.host.proofs.number.Tie as tie
-use Rattle.host.proofs.number.Reads as reads
-use Rattle.host.proofs.number.Lts as lts
 
--- src/lib.rt:16:22
 enum-known-a : tie.Need-enum-known-a
 enum-known-a c = search needs
 
--- src/lib.rt:16:28
 cast-result : tie.Need-cast-result
 cast-result c = search needs
 
--- src/lib.rt:17:28
 enum-told : tie.Need-enum-told
 enum-told c = search needs
 
--- src/lib.rt:18:28
 enum-told-2 : tie.Need-enum-told-2
 enum-told-2 c = search needs
 
--- src/lib.rt:19:28
 enum-told-3 : tie.Need-enum-told-3
 enum-told-3 c = search needs
 
--- src/lib.rt:20:29
 enum-told-4 : tie.Need-enum-told-4
 enum-told-4 c = search needs
 
--- src/lib.rt:21:26
 enum-known-a-2 : tie.Need-enum-known-a-2
 enum-known-a-2 c = search needs
 
--- src/lib.rt:21:47
 cast-result-2 : tie.Need-cast-result-2
 cast-result-2 c = search needs
 
--- src/lib.rt:21:32
 add-result : tie.Need-add-result
 add-result c = search needs
 
--- src/lib.rt:22:27
 enum-told-5 : tie.Need-enum-told-5
 enum-told-5 c = search needs
 
--- src/lib.rt:23:27
 enum-told-6 : tie.Need-enum-told-6
 enum-told-6 c = search needs
 
--- src/lib.rt:24:34
 enum-told-7 : tie.Need-enum-told-7
 enum-told-7 c = search needs
 
--- src/lib.rt:12:1
 returns : tie.Need-returns
 returns c = done (c .before .a .given .1)
 
--- src/lib.rt:12:1
 returns-2 : tie.Need-returns-2
 returns-2 c = sym (ap numberOf (c .enum-told .given .1))
 
--- src/lib.rt:12:1
 returns-3 : tie.Need-returns-3
 returns-3 c = sym (ap numberOf (c .enum-told2 .given .1))
 
--- src/lib.rt:12:1
 returns-4 : tie.Need-returns-4
 returns-4 c = sym (ap numberOf (c .enum-told3 .given .1))
 
--- src/lib.rt:12:1
 returns-5 : tie.Need-returns-5
 returns-5 c = sym (ap numberOf (c .enum-told4 .given .1))
 
--- src/lib.rt:12:1
 returns-6 : tie.Need-returns-6
 returns-6 c = sym (ap numberOf (c .before .a2 .given .1))
 
--- src/lib.rt:12:1
 returns-7 : tie.Need-returns-7
 returns-7 c = sym (ap numberOf (c .enum-told5 .given .1))
 
--- src/lib.rt:12:1
 returns-8 : tie.Need-returns-8
 returns-8 c = sym (ap numberOf (c .enum-told6 .given .1))
 
--- src/lib.rt:12:1
 returns-9 : tie.Need-returns-9
 returns-9 c = sym (ap numberOf (c .enum-told7 .given .1))
 

@@ -7,95 +7,67 @@ use Rattle.map.proofs.Inserts.{to-take, deleted}
 use borrow.Author.Needs.{needs}
 use Rattle.map.proofs.delete.Statement.{statement}
 use Rattle.map.proofs.delete.Tie as tie
-use Rattle.map.proofs.delete.Reads as reads
-use Rattle.map.proofs.delete.Lts as lts
-use Rattle.map.proofs.is_sound.Reads as is-sound-reads
-use Rattle.map.proofs.take_line.Reads as take-line-reads
-use Rattle.tables.proofs.known.Reads as known-reads
-use Rattle.tables.proofs.lengths_fit.Reads as lengths-fit-reads
-use Rattle.tables.proofs.slot_of.Reads as slot-of-reads
 
--- src/lib.rt:189:9
 lengths-fit-requires : tie.Need-lengths-fit-requires
 lengths-fit-requires c κs = search needs
 
--- src/lib.rt:190:9
 same-length : tie.Need-same-length
 same-length c = search needs
 
--- src/lib.rt:190:9
 same-length-2 : tie.Need-same-length-2
 same-length-2 c = search needs
 
--- src/lib.rt:190:9
 same-length-3 : tie.Need-same-length-3
 same-length-3 c = search needs
 
--- src/lib.rt:190:9
 returns : tie.Need-returns
 returns c = sym (delete-1 baseRule _ _ (sym (c .before .lengths-fit .ensures) ∙ not-true _ (c .if1 .taken)))
 
--- src/lib.rt:192:9
 is-sound-requires : tie.Need-is-sound-requires
 is-sound-requires c κs = sym (c .before .before .before .before .lengths-fit .ensures) ∙ not-false _ (c .before .before .before .if1 .left)
 
--- src/lib.rt:193:9
 same-length-4 : tie.Need-same-length-4
 same-length-4 c = search needs
 
--- src/lib.rt:193:9
 same-length-5 : tie.Need-same-length-5
 same-length-5 c = search needs
 
--- src/lib.rt:193:9
 same-length-6 : tie.Need-same-length-6
 same-length-6 c = search needs
 
--- src/lib.rt:193:9
 returns-2 : tie.Need-returns-2
 returns-2 c = sym (delete-2 baseRule _ _ (sym (c .before .before .before .before .before .before .lengths-fit .ensures) ∙ not-false _ (c .before .before .before .before .before .if1 .left)) (sym (c .before .is-sound .ensures) ∙ not-true _ (c .if2 .taken)))
 
--- src/lib.rt:195:9
 known-requires : tie.Need-known-requires
 known-requires c κs = search needs
 
--- src/lib.rt:196:9
 same-length-7 : tie.Need-same-length-7
 same-length-7 c = search needs
 
--- src/lib.rt:196:9
 same-length-8 : tie.Need-same-length-8
 same-length-8 c = search needs
 
--- src/lib.rt:196:9
 same-length-9 : tie.Need-same-length-9
 same-length-9 c = search needs
 
--- src/lib.rt:196:9
 returns-3 : tie.Need-returns-3
 returns-3 c = sym (delete-8 baseRule _ _ (sym (c .before .before .before .before .before .before .before .before .before .lengths-fit .ensures) ∙ not-false _ (c .before .before .before .before .before .before .before .before .if1 .left)) (sym (c .before .before .before .before .is-sound .ensures) ∙ not-false _ (c .before .before .before .if2 .left)) (sym (c .before .known .ensures) ∙ not-true _ (c .if3 .taken)))
 
--- src/lib.rt:198:39
 slot-of-requires : tie.Need-slot-of-requires
 slot-of-requires c κs = search needs
 
--- src/lib.rt:198:5
 take-line-requires : tie.Need-take-line-requires
 take-line-requires c κs = to-take (c .before .before .before .before .before .before .before .before .before .before .before .before .before .before .before .before .before .before .before .before .args .handle) (record { fit = sym (c .before .before .before .before .before .before .before .before .before .before .before .before .before .lengths-fit .ensures) ∙ not-false _ (c .before .before .before .before .before .before .before .before .before .before .before .before .if1 .left); ok = sym (c .before .before .before .before .before .before .before .before .is-sound .ensures) ∙ not-false _ (c .before .before .before .before .before .before .before .if2 .left) }) (sym (c .before .before .before .before .before .known .ensures) ∙ not-false _ (c .before .before .before .before .if3 .left)) (c .slot-of .ensures)
 
--- src/lib.rt:186:1
 same-length-10 : tie.Need-same-length-10
 same-length-10 c = search needs
 
--- src/lib.rt:186:1
 same-length-11 : tie.Need-same-length-11
 same-length-11 c = search needs
 
--- src/lib.rt:186:1
 same-length-12 : tie.Need-same-length-12
 same-length-12 c = search needs
 
--- src/lib.rt:186:1
 returns-4 : tie.Need-returns-4
 returns-4 c = deleted (c .before .before .before .before .before .before .before .before .before .before .before .before .before .before .before .before .before .before .before .before .before .before .before .before .before .before .before .args .handle) (record { fit = sym (c .before .before .before .before .before .before .before .before .before .before .before .before .before .before .before .before .before .before .before .before .lengths-fit .ensures) ∙ not-false _ (c .before .before .before .before .before .before .before .before .before .before .before .before .before .before .before .before .before .before .before .if1 .left); ok = sym (c .before .before .before .before .before .before .before .before .before .before .before .before .before .before .before .is-sound .ensures) ∙ not-false _ (c .before .before .before .before .before .before .before .before .before .before .before .before .before .before .if2 .left) }) (sym (c .before .before .before .before .before .before .before .before .before .before .before .before .known .ensures) ∙ not-false _ (c .before .before .before .before .before .before .before .before .before .before .before .if3 .left)) (c .before .before .before .before .before .before .before .slot-of .ensures) (c .before .before .before .before .before .before .take-line .ensures)
 

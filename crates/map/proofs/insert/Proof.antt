@@ -6,69 +6,49 @@ use Rattle.map.specs.Steps.{insert-1, insert-2}
 use borrow.Author.Needs.{needs}
 use Rattle.map.proofs.insert.Statement.{statement}
 use Rattle.map.proofs.insert.Tie as tie
-use Rattle.map.proofs.insert.Reads as reads
-use Rattle.map.proofs.insert.Lts as lts
-use Rattle.map.proofs.insert_sound.Reads as insert-sound-reads
-use Rattle.map.proofs.is_sound.Reads as is-sound-reads
-use Rattle.tables.proofs.lengths_fit.Reads as lengths-fit-reads
 
--- src/lib.rt:165:9
 lengths-fit-requires : tie.Need-lengths-fit-requires
 lengths-fit-requires c κs = search needs
 
--- src/lib.rt:166:9
 same-length : tie.Need-same-length
 same-length c = search needs
 
--- src/lib.rt:166:9
 same-length-2 : tie.Need-same-length-2
 same-length-2 c = search needs
 
--- src/lib.rt:166:9
 same-length-3 : tie.Need-same-length-3
 same-length-3 c = search needs
 
--- src/lib.rt:166:9
 returns : tie.Need-returns
 returns c = sym (insert-1 baseRule _ _ (sym (c .before .lengths-fit .ensures) ∙ not-true _ (c .if1 .taken)))
 
--- src/lib.rt:168:9
 is-sound-requires : tie.Need-is-sound-requires
 is-sound-requires c κs = sym (c .before .before .before .before .lengths-fit .ensures) ∙ not-false _ (c .before .before .before .if1 .left)
 
--- src/lib.rt:169:9
 same-length-4 : tie.Need-same-length-4
 same-length-4 c = search needs
 
--- src/lib.rt:169:9
 same-length-5 : tie.Need-same-length-5
 same-length-5 c = search needs
 
--- src/lib.rt:169:9
 same-length-6 : tie.Need-same-length-6
 same-length-6 c = search needs
 
--- src/lib.rt:169:9
 returns-2 : tie.Need-returns-2
 returns-2 c = sym (insert-2 baseRule _ _ (sym (c .before .before .before .before .before .before .lengths-fit .ensures) ∙ not-false _ (c .before .before .before .before .before .if1 .left)) (sym (c .before .is-sound .ensures) ∙ not-true _ (c .if2 .taken)))
 
--- src/lib.rt:171:5
 insert-sound-requires : tie.Need-insert-sound-requires
 insert-sound-requires c κs = record { fit = sym (c .before .before .before .before .before .before .before .before .before .lengths-fit .ensures) ∙ not-false _ (c .before .before .before .before .before .before .before .before .if1 .left); ok = sym (c .before .before .before .before .is-sound .ensures) ∙ not-false _ (c .before .before .before .if2 .left) }
 
--- src/lib.rt:162:1
 same-length-7 : tie.Need-same-length-7
 same-length-7 c = search needs
 
--- src/lib.rt:162:1
 same-length-8 : tie.Need-same-length-8
 same-length-8 c = search needs
 
--- src/lib.rt:162:1
 same-length-9 : tie.Need-same-length-9
 same-length-9 c = search needs
 
--- src/lib.rt:162:1
 returns-3 : tie.Need-returns-3
 returns-3 c = search needs
 

@@ -8,90 +8,64 @@ use Rattle.map.proofs.Inserts.{conflict-low, tested}
 use borrow.Author.Needs.{needs}
 use Rattle.map.proofs.insert_sound.Statement.{statement}
 use Rattle.map.proofs.insert_sound.Tie as tie
-use Rattle.map.proofs.insert_sound.Reads as reads
-use Rattle.map.proofs.insert_sound.Lts as lts
-use Rattle.map.proofs.place.Reads as place-reads
-use Rattle.tables.proofs.all_on_grid.Reads as all-on-grid-reads
-use Rattle.tables.proofs.first_conflict.Reads as first-conflict-reads
-use Rattle.tables.proofs.free_slot.Reads as free-slot-reads
-use Rattle.tables.proofs.no_length.Reads as no-length-reads
 
--- src/lib.rt:147:9
 all-on-grid-requires : tie.Need-all-on-grid-requires
 all-on-grid-requires c κs = search needs
 
--- src/lib.rt:148:9
 returns : tie.Need-returns
 returns c = sym (insert-3 baseRule _ _ (c .before .before .before .before .before .pre .fit) (c .before .before .before .before .before .pre .ok) (sym (c .before .all-on-grid .ensures) ∙ not-true _ (c .if1 .taken)))
 
--- src/lib.rt:150:8
 no-length-requires : tie.Need-no-length-requires
 no-length-requires c κs = search needs
 
--- src/lib.rt:151:9
 returns-2 : tie.Need-returns-2
 returns-2 c = sym (insert-4 baseRule _ _ (c .before .before .before .before .before .before .before .pre .fit) (c .before .before .before .before .before .before .before .pre .ok) (sym (c .before .before .before .all-on-grid .ensures) ∙ not-false _ (c .before .before .if1 .left)) (sym (c .before .no-length .ensures) ∙ c .if2 .taken))
 
--- src/lib.rt:153:26
 first-conflict-requires : tie.Need-first-conflict-requires
 first-conflict-requires c κs = tested (c .before .before .before .before .before .before .before .before .pre) (sym (c .before .before .before .before .all-on-grid .ensures) ∙ not-false _ (c .before .before .before .if1 .left)) (sym (c .before .before .no-length .ensures) ∙ c .before .if2 .left)
 
--- src/lib.rt:153:21
 enum-known-s : tie.Need-enum-known-s
 enum-known-s c = search needs
 
--- src/lib.rt:154:33
 cast-t13 : tie.Need-cast-t13
 cast-t13 c = record { fits = omega (arith, conflict-low (c .before .before .before .before .before .before .before .before .before .before .before .before .pre) (c .before .before .before .before .before .before .before .before .before .before .before .before .args .g) (sym (c .before .before .before .first-conflict .ensures) ∙ c .before .s .given .1)) }
 
--- src/lib.rt:154:9
 same-length : tie.Need-same-length
 same-length c = search needs
 
--- src/lib.rt:154:9
 returns-3 : tie.Need-returns-3
 returns-3 c = let f = first-at _ (sym (c .before .before .before .first-conflict .ensures) ∙ c .before .s .given .1) in sym (insert-5 baseRule _ _ (c .before .before .before .before .before .before .before .before .before .before .before .before .pre .fit) (c .before .before .before .before .before .before .before .before .before .before .before .before .pre .ok) (sym (c .before .before .before .before .before .before .before .before .all-on-grid .ensures) ∙ not-false _ (c .before .before .before .before .before .before .before .if1 .left)) (sym (c .before .before .before .before .before .before .no-length .ensures) ∙ c .before .before .before .before .before .if2 .left) _ (f .0) (f .1))
 
 enum-told : tie.Need-enum-told
 enum-told c = search needs
 
--- src/lib.rt:156:26
 free-slot-requires : tie.Need-free-slot-requires
 free-slot-requires c κs = search needs
 
--- src/lib.rt:156:18
 enum-known-slot : tie.Need-enum-known-slot
 enum-known-slot c = search needs
 
--- src/lib.rt:157:9
 enum-told-2 : tie.Need-enum-told-2
 enum-told-2 c = search needs
 
--- src/lib.rt:157:9
 same-length-2 : tie.Need-same-length-2
 same-length-2 c = search needs
 
--- src/lib.rt:157:9
 returns-4 : tie.Need-returns-4
 returns-4 c = sym (insert-6 baseRule _ _ (c .before .before .before .before .before .before .before .before .before .before .before .before .before .before .before .pre .fit) (c .before .before .before .before .before .before .before .before .before .before .before .before .before .before .before .pre .ok) (sym (c .before .before .before .before .before .before .before .before .before .before .before .all-on-grid .ensures) ∙ not-false _ (c .before .before .before .before .before .before .before .before .before .before .if1 .left)) (sym (c .before .before .before .before .before .before .before .before .before .no-length .ensures) ∙ c .before .before .before .before .before .before .before .before .if2 .left) (first-none _ (sym (c .before .before .before .before .before .before .first-conflict .ensures) ∙ c .before .before .before .before .enum-told .given .1)) (first-none _ (sym (c .before .before .free-slot .ensures) ∙ c .enum-told2 .given .1)))
 
--- src/lib.rt:159:5
 place-requires : tie.Need-place-requires
 place-requires c κs = record { passed = c .before .before .before .before .before .before .before .before .before .before .before .before .before .before .before .before .before .before .before .pre; grid = sym (c .before .before .before .before .before .before .before .before .before .before .before .before .before .before .before .all-on-grid .ensures) ∙ not-false _ (c .before .before .before .before .before .before .before .before .before .before .before .before .before .before .if1 .left); long = sym (c .before .before .before .before .before .before .before .before .before .before .before .before .before .no-length .ensures) ∙ c .before .before .before .before .before .before .before .before .before .before .before .before .if2 .left; clear = first-none _ (sym (c .before .before .before .before .before .before .before .before .before .before .first-conflict .ensures) ∙ c .before .before .before .before .before .before .before .before .enum-told .given .1); free = sym (c .before .before .before .before .before .before .free-slot .ensures) ∙ c .before .before .before .before .slot .given .1 }
 
--- src/lib.rt:143:1
 same-length-3 : tie.Need-same-length-3
 same-length-3 c = search needs
 
--- src/lib.rt:143:1
 same-length-4 : tie.Need-same-length-4
 same-length-4 c = search needs
 
--- src/lib.rt:143:1
 same-length-5 : tie.Need-same-length-5
 same-length-5 c = search needs
 
--- src/lib.rt:143:1
 returns-5 : tie.Need-returns-5
 returns-5 c = search needs
 

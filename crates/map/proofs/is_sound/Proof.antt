@@ -4,24 +4,16 @@ use Rattle.map.specs.Soundness.{bad-slots}
 use borrow.Author.Needs.{needs}
 use Rattle.map.proofs.is_sound.Statement.{statement}
 use Rattle.map.proofs.is_sound.Tie as tie
-use Rattle.map.proofs.is_sound.Reads as reads
-use Rattle.map.proofs.is_sound.Lts as lts
-use Rattle.map.proofs.trees_sound.Reads as trees-sound-reads
-use Rattle.tables.proofs.slots_sound.Reads as slots-sound-reads
 
--- src/lib.rt:73:8
 slots-sound-requires : tie.Need-slots-sound-requires
 slots-sound-requires c κs = search needs
 
--- src/lib.rt:74:9
 trees-sound-requires : tie.Need-trees-sound-requires
 trees-sound-requires c κs = record { fit = c .before .before .before .before .before .pre; slots = sym (c .before .slots-sound .ensures) ∙ c .if1 .taken }
 
--- src/lib.rt:74:9
 returns : tie.Need-returns
 returns c = search needs
 
--- src/lib.rt:69:1
 returns-2 : tie.Need-returns-2
 returns-2 c = sym (bad-slots baseRule _ (sym (c .before .slots-sound .ensures) ∙ c .if1 .left))
 

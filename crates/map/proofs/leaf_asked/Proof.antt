@@ -1,8 +1,8 @@
-use mathlib.Core.Path.{sym, ap₂, subst, _∙_}
+use mathlib.Core.Path.{sym, ap₂, _∙_}
 use mathlib.Core.Bool.{_&&_}
 use native.Mathlib.Omega.{arith}
 use borrow.Author.Tests.{not-true, not-false}
-use Rattle.definitions.specs.Tree.{baseRule, Tree}
+use Rattle.definitions.specs.Tree.{baseRule}
 use mathlib.Core.Path.{_≡_}
 use mathlib.Core.Bool.{true}
 use Rattle.definitions.specs.Tables.{onGrid}
@@ -12,46 +12,31 @@ use Rattle.map.proofs.Shows.{walkable, x-low, y-low, found}
 use borrow.Author.Needs.{needs}
 use Rattle.map.proofs.leaf_asked.Statement.{statement}
 use Rattle.map.proofs.leaf_asked.Tie as tie
-use Rattle.map.proofs.leaf_asked.Reads as reads
-use Rattle.map.proofs.leaf_asked.Lts as lts
-use Rattle.geometry.proofs.on_grid.Reads as on-grid-reads
-use Rattle.map.proofs.is_sound.Reads as is-sound-reads
-use Rattle.map.proofs.leaf_of.Reads as leaf-of-reads
-use Rattle.tables.proofs.lengths_fit.Reads as lengths-fit-reads
 
--- src/lib.rt:223:9
 lengths-fit-requires : tie.Need-lengths-fit-requires
 lengths-fit-requires c κs = search needs
 
--- src/lib.rt:224:9
 returns : tie.Need-returns
 returns c = show-1 baseRule _ _ _ (sym (c .before .lengths-fit .ensures) ∙ not-true _ (c .if1 .taken))
 
--- src/lib.rt:226:9
 is-sound-requires : tie.Need-is-sound-requires
 is-sound-requires c κs = sym (c .before .lengths-fit .ensures) ∙ not-false _ (c .if1 .left)
 
--- src/lib.rt:227:9
 returns-2 : tie.Need-returns-2
 returns-2 c = show-2 baseRule _ _ _ (sym (c .before .before .before .lengths-fit .ensures) ∙ not-false _ (c .before .before .if1 .left)) (sym (c .before .is-sound .ensures) ∙ not-true _ (c .if2 .taken))
 
--- src/lib.rt:229:10
 on-grid-requires : tie.Need-on-grid-requires
 on-grid-requires c κs = search needs
 
--- src/lib.rt:229:23
 on-grid-requires-2 : tie.Need-on-grid-requires-2
 on-grid-requires-2 c κs = search needs
 
--- src/lib.rt:230:9
 returns-3 : tie.Need-returns-3
 returns-3 c = show-3 baseRule _ _ _ (sym (c .before .before .before .before .before .before .lengths-fit .ensures) ∙ not-false _ (c .before .before .before .before .before .if1 .left)) (sym (c .before .before .before .before .is-sound .ensures) ∙ not-false _ (c .before .before .before .if2 .left)) (ap₂ _&&_ (sym (c .before .before .on-grid .ensures)) (sym (c .before .on-grid2 .ensures)) ∙ not-true _ (c .if3 .taken))
 
--- src/lib.rt:232:18
 leaf-of-requires : tie.Need-leaf-of-requires
 leaf-of-requires c κs = let w : Passed (c .before .before .before .before .before .before .before .before .before .before .args .lines .now) (c .before .before .before .before .before .before .before .before .before .before .args .nodes .now) (c .before .before .before .before .before .before .before .before .before .before .args .listings .now) = record { fit = sym (c .before .before .before .before .before .before .lengths-fit .ensures) ∙ not-false _ (c .before .before .before .before .before .if1 .left); ok = sym (c .before .before .before .before .is-sound .ensures) ∙ not-false _ (c .before .before .before .if2 .left) } in let g : (onGrid (c .before .before .before .before .before .before .before .before .before .before .args .x) && onGrid (c .before .before .before .before .before .before .before .before .before .before .args .y)) ≡ true = ap₂ _&&_ (sym (c .before .before .on-grid .ensures)) (sym (c .before .on-grid2 .ensures)) ∙ not-false _ (c .if3 .left) in (walkable w, x-low w (c .before .before .before .before .before .before .before .before .before .before .args .x) (c .before .before .before .before .before .before .before .before .before .before .args .y) g, y-low w (c .before .before .before .before .before .before .before .before .before .before .args .x) (c .before .before .before .before .before .before .before .before .before .before .args .y) g)
 
--- src/lib.rt:220:1
 returns-4 : tie.Need-returns-4
 returns-4 c = let w : Passed (c .before .before .before .before .before .before .before .before .before .before .before .args .lines .now) (c .before .before .before .before .before .before .before .before .before .before .before .args .nodes .now) (c .before .before .before .before .before .before .before .before .before .before .before .args .listings .now) = record { fit = sym (c .before .before .before .before .before .before .before .lengths-fit .ensures) ∙ not-false _ (c .before .before .before .before .before .before .if1 .left); ok = sym (c .before .before .before .before .before .is-sound .ensures) ∙ not-false _ (c .before .before .before .before .if2 .left) } in found w _ _ (ap₂ _&&_ (sym (c .before .before .before .on-grid .ensures)) (sym (c .before .before .on-grid2 .ensures)) ∙ not-false _ (c .before .if3 .left)) (c .leaf-of .ensures)
 

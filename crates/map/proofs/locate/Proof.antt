@@ -1,4 +1,4 @@
-use mathlib.Core.Path.{sym, _∙_, ap}
+use mathlib.Core.Path.{sym, _∙_}
 use borrow.Author.Tests.{not-true, not-false}
 use Rattle.definitions.specs.Tree.{baseRule}
 use Rattle.lookup.specs.Mapping.{mapped}
@@ -7,45 +7,31 @@ use Rattle.map.proofs.Locates.{short, odd, not-half, twice, all-fit, lo
 use borrow.Author.Needs.{needs}
 use Rattle.map.proofs.locate.Statement.{statement}
 use Rattle.map.proofs.locate.Tie as tie
-use Rattle.map.proofs.locate.Reads as reads
-use Rattle.map.proofs.locate.Lts as lts
-use Rattle.lookup.proofs.answer_all.Reads as answer-all-reads
-use Rattle.map.proofs.is_sound.Reads as is-sound-reads
-use Rattle.tables.proofs.lengths_fit.Reads as lengths-fit-reads
 
--- src/lib.rt:209:9
 lengths-fit-requires : tie.Need-lengths-fit-requires
 lengths-fit-requires c κs = search needs
 
--- src/lib.rt:210:9
 returns : tie.Need-returns
 returns c = sym (locate-1 baseRule _ _ _ (short _ (c .before .before .before .before .before .before .before .args .points .now) (c .before .before .before .before .before .before .before .args .answers .now) (sym (c .before .lengths-fit .ensures) ∙ not-true _ (c .if1 .taken))))
 
--- src/lib.rt:213:9
 returns-2 : tie.Need-returns-2
 returns-2 c = sym (locate-1 baseRule _ _ _ (odd _ (c .before .before .before .before .before .before .before .before .args .points .now) (c .before .before .before .before .before .before .before .before .args .answers .now) (c .if2 .taken)))
 
--- src/lib.rt:216:9
 returns-3 : tie.Need-returns-3
 returns-3 c = sym (locate-1 baseRule _ _ _ (not-half _ (c .before .before .before .before .before .before .before .before .before .args .points .now) (c .before .before .before .before .before .before .before .before .before .args .answers .now) (c .if3 .taken)))
 
--- src/lib.rt:218:9
 is-sound-requires : tie.Need-is-sound-requires
 is-sound-requires c κs = sym (c .before .before .before .lengths-fit .ensures) ∙ not-false _ (c .before .before .if1 .left)
 
--- src/lib.rt:219:9
 returns-4 : tie.Need-returns-4
 returns-4 c = sym (locate-2 baseRule _ _ _ (all-fit _ (c .before .before .before .before .before .before .before .before .before .before .before .args .points .now) (c .before .before .before .before .before .before .before .before .before .before .before .args .answers .now) (sym (c .before .before .before .before .before .lengths-fit .ensures) ∙ not-false _ (c .before .before .before .before .if1 .left)) (twice (c .before .before .before .before .before .before .before .before .before .before .before .args .points .now) (c .before .before .before .before .before .before .before .before .before .before .before .args .answers .now) (c .before .before .before .if2 .left) (c .before .before .if3 .left))) (sym (c .before .is-sound .ensures) ∙ not-true _ (c .if4 .taken)))
 
--- src/lib.rt:221:5
 answer-all-requires : tie.Need-answer-all-requires
 answer-all-requires c κs = (mapped baseRule _ (sym (c .before .before .before .before .before .before .lengths-fit .ensures) ∙ not-false _ (c .before .before .before .before .before .if1 .left)) (sym (c .before .before .is-sound .ensures) ∙ not-false _ (c .before .if4 .left)), (twice (c .before .before .before .before .before .before .before .before .before .before .before .before .args .points .now) (c .before .before .before .before .before .before .before .before .before .before .before .before .args .answers .now) (c .before .before .before .before .if2 .left) (c .before .before .before .if3 .left)))
 
--- src/lib.rt:206:1
 same-length : tie.Need-same-length
 same-length c = search needs
 
--- src/lib.rt:206:1
 returns-5 : tie.Need-returns-5
 returns-5 c = located (c .before .before .answer-all .ensures) (locate-0 baseRule _ _ _ (all-fit _ (c .before .before .before .before .before .before .before .before .before .before .before .before .before .before .before .args .points .now) (c .before .before .before .before .before .before .before .before .before .before .before .before .before .before .before .args .answers .now) (sym (c .before .before .before .before .before .before .before .before .before .lengths-fit .ensures) ∙ not-false _ (c .before .before .before .before .before .before .before .before .if1 .left)) (twice (c .before .before .before .before .before .before .before .before .before .before .before .before .before .before .before .args .points .now) (c .before .before .before .before .before .before .before .before .before .before .before .before .before .before .before .args .answers .now) (c .before .before .before .before .before .before .before .if2 .left) (c .before .before .before .before .before .before .if3 .left))) (sym (c .before .before .before .before .before .is-sound .ensures) ∙ not-false _ (c .before .before .before .before .if4 .left)))
 

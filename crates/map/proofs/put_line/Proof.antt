@@ -1,84 +1,60 @@
-use mathlib.Core.Path.{sym, _∙_}
 use native.Mathlib.Omega.{arith}
 use Rattle.map.proofs.Puts.{at-most, put-good, not-put, put, nodes-long, listings-long}
 use borrow.Author.Needs.{needs}
 use Rattle.map.proofs.put_line.Statement.{statement}
 use Rattle.map.proofs.put_line.Tie as tie
-use Rattle.map.proofs.put_line.Reads as reads
-use Rattle.map.proofs.put_line.Lts as lts
-use Rattle.tables.proofs.copy.Reads as copy-reads
-use Rattle.tables.proofs.put_row.Reads as put-row-reads
-use Rattle.tables.proofs.row_at.Reads as row-at-reads
-use Rattle.tree.proofs.build.Reads as build-reads
 
--- src/lib.rt:106:9
 row-at-requires : tie.Need-row-at-requires
 row-at-requires c κs = search needs
 
--- src/lib.rt:107:5
 put-row-requires : tie.Need-put-row-requires
 put-row-requires c κs = search needs
 
--- src/lib.rt:108:26
 build-requires : tie.Need-build-requires
 build-requires c κs = put-good (c .before .before .before .before .before .before .before .before .before .before .before .before .before .before .pre) (c .before .before .before .before .before .put-row .ensures)
 
 enum-told : tie.Need-enum-told
 enum-told c = search needs
 
--- src/lib.rt:109:17
 enum-told-2 : tie.Need-enum-told-2
 enum-told-2 c = search needs
 
--- src/lib.rt:109:9
 put-row-requires-2 : tie.Need-put-row-requires-2
 put-row-requires-2 c κs = search needs
 
--- src/lib.rt:110:9
 same-length : tie.Need-same-length
 same-length c = search needs
 
--- src/lib.rt:110:9
 same-length-2 : tie.Need-same-length-2
 same-length-2 c = search needs
 
--- src/lib.rt:110:9
 same-length-3 : tie.Need-same-length-3
 same-length-3 c = search needs
 
--- src/lib.rt:110:9
 returns : tie.Need-returns
 returns c = not-put (c .before .before .before .before .before .before .before .before .before .before .before .before .before .before .before .before .before .before .before .before .before .before .before .before .before .pre) (c .before .before .before .before .before .before .before .before .before .before .before .before .before .before .before .before .put-row .ensures) (c .before .before .before .before .before .before .before .before .before .before .build .ensures) (c .before .before .before .before .enum-told2 .given .1) (c .before .before .before .before .before .before .before .before .before .before .before .before .before .before .before .before .before .before .row-at .ensures) (c .before .before .put-row2 .ensures)
 
--- src/lib.rt:112:5
 copy-requires : tie.Need-copy-requires
 copy-requires c κs = at-most (nodes-long (c .before .before .before .before .before .before .before .before .before .before .before .before .before .before .before .before .before .before .before .before .before .before .before .args .nodes .now) (c .before .before .before .before .before .before .before .before .before .before .before .before .before .before .before .before .before .before .before .before .before .before .before .args .listings .now) (c .before .before .before .before .before .before .before .before .before .before .before .before .before .before .before .before .before .before .before .before .before .before .before .pre .noNodes) (c .before .before .before .before .before .before .before .before .before .before .before .before .before .before .before .before .before .before .before .before .before .before .before .pre .noListings) (c .before .before .before .before .before .before .before .before .build .ensures) (c .before .before .enum-told .given .1))
 
--- src/lib.rt:113:5
 copy-requires-2 : tie.Need-copy-requires-2
 copy-requires-2 c κs = at-most (listings-long (c .before .before .before .before .before .before .before .before .before .before .before .before .before .before .before .before .before .before .before .before .before .before .before .before .before .before .before .before .args .nodes .now) (c .before .before .before .before .before .before .before .before .before .before .before .before .before .before .before .before .before .before .before .before .before .before .before .before .before .before .before .before .args .listings .now) (c .before .before .before .before .before .before .before .before .before .before .before .before .before .before .before .before .before .before .before .before .before .before .before .before .before .before .before .before .pre .noNodes) (c .before .before .before .before .before .before .before .before .before .before .before .before .before .before .before .before .before .before .before .before .before .before .before .before .before .before .before .before .pre .noListings) (c .before .before .before .before .before .before .before .before .before .before .before .before .before .build .ensures) (c .before .before .before .before .before .before .before .enum-told .given .1))
 
--- src/lib.rt:93:1
 same-length-4 : tie.Need-same-length-4
 same-length-4 c = search needs
 
--- src/lib.rt:93:1
 same-length-5 : tie.Need-same-length-5
 same-length-5 c = search needs
 
--- src/lib.rt:93:1
 same-length-6 : tie.Need-same-length-6
 same-length-6 c = search needs
 
--- src/lib.rt:93:1
 same-length-7 : tie.Need-same-length-7
 same-length-7 c = search needs
 
--- src/lib.rt:93:1
 same-length-8 : tie.Need-same-length-8
 same-length-8 c = search needs
 
--- src/lib.rt:93:1
 returns-2 : tie.Need-returns-2
 returns-2 c = put (c .before .before .before .before .before .before .before .before .before .before .before .before .before .before .before .before .before .before .before .before .before .before .before .before .before .before .before .before .before .before .before .pre) (c .before .before .before .before .before .before .before .before .before .before .before .before .before .before .before .before .before .before .before .before .before .before .put-row .ensures) (c .before .before .before .before .before .before .before .before .before .before .before .before .before .before .before .before .build .ensures) (c .before .before .before .before .before .before .before .before .before .before .enum-told .given .1) (c .before .before .before .before .before .before .before .copy .ensures) (c .before .before .copy2 .ensures)
 

@@ -2,27 +2,19 @@ use Rattle.map.proofs.Shows.{refused-told, shows-told}
 use borrow.Author.Needs.{needs}
 use Rattle.map.proofs.show_leaf.Statement.{statement}
 use Rattle.map.proofs.show_leaf.Tie as tie
-use Rattle.map.proofs.show_leaf.Reads as reads
-use Rattle.map.proofs.show_leaf.Lts as lts
-use Rattle.map.proofs.leaf_asked.Reads as leaf-asked-reads
 
--- src/lib.rt:239:11
 leaf-asked-requires : tie.Need-leaf-asked-requires
 leaf-asked-requires c κs = search needs
 
--- src/lib.rt:240:24
 enum-known-answer : tie.Need-enum-known-answer
 enum-known-answer c = search needs
 
--- src/lib.rt:246:22
 enum-known-leaf : tie.Need-enum-known-leaf
 enum-known-leaf c = search needs
 
--- src/lib.rt:236:1
 returns : tie.Need-returns
 returns c = refused-told _ _ _ (c .before .before .before .leaf-asked .ensures) (c .before .answer .given .1)
 
--- src/lib.rt:236:1
 returns-2 : tie.Need-returns-2
 returns-2 c = shows-told _ _ _ (c .before .before .before .before .before .leaf-asked .ensures) (c .before .before .before .leaf .given .1)
 

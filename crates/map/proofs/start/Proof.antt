@@ -5,56 +5,40 @@ use Rattle.map.proofs.Ends.{started}
 use borrow.Author.Needs.{needs}
 use Rattle.map.proofs.start.Statement.{statement}
 use Rattle.map.proofs.start.Tie as tie
-use Rattle.map.proofs.start.Reads as reads
-use Rattle.map.proofs.start.Lts as lts
-use Rattle.tables.proofs.clear.Reads as clear-reads
-use Rattle.tables.proofs.lengths_fit.Reads as lengths-fit-reads
 
--- src/lib.rt:12:9
 lengths-fit-requires : tie.Need-lengths-fit-requires
 lengths-fit-requires c κs = search needs
 
--- src/lib.rt:13:9
 same-length : tie.Need-same-length
 same-length c = search needs
 
--- src/lib.rt:13:9
 same-length-2 : tie.Need-same-length-2
 same-length-2 c = search needs
 
--- src/lib.rt:13:9
 same-length-3 : tie.Need-same-length-3
 same-length-3 c = search needs
 
--- src/lib.rt:13:9
 returns : tie.Need-returns
 returns c = sym (start-1 _ (sym (c .before .lengths-fit .ensures) ∙ not-true _ (c .if1 .taken)))
 
--- src/lib.rt:15:5
 clear-requires : tie.Need-clear-requires
 clear-requires c κs = search needs
 
--- src/lib.rt:16:5
 clear-requires-2 : tie.Need-clear-requires-2
 clear-requires-2 c κs = search needs
 
--- src/lib.rt:17:5
 clear-requires-3 : tie.Need-clear-requires-3
 clear-requires-3 c κs = search needs
 
--- src/lib.rt:9:1
 same-length-4 : tie.Need-same-length-4
 same-length-4 c = search needs
 
--- src/lib.rt:9:1
 same-length-5 : tie.Need-same-length-5
 same-length-5 c = search needs
 
--- src/lib.rt:9:1
 same-length-6 : tie.Need-same-length-6
 same-length-6 c = search needs
 
--- src/lib.rt:9:1
 returns-2 : tie.Need-returns-2
 returns-2 c = started _ _ _ (sym (c .before .before .before .before .before .before .before .before .before .before .before .before .before .lengths-fit .ensures) ∙ not-false _ (c .before .before .before .before .before .before .before .before .before .before .before .before .if1 .left)) (c .before .before .before .before .before .before .before .before .before .before .clear .ensures) (c .before .before .before .before .before .before .clear2 .ensures) (c .before .before .clear3 .ensures)
 

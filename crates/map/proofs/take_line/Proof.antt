@@ -1,56 +1,36 @@
-use mathlib.Core.Path.{sym, _∙_}
 use native.Mathlib.Omega.{arith}
-use borrow.Author.Tests.{not-true, not-false}
-use Rattle.definitions.specs.Tree.{baseRule}
 use Rattle.map.proofs.Inserts.{freed-good, taken-out}
 use borrow.Author.Needs.{needs}
 use Rattle.map.proofs.take_line.Statement.{statement}
 use Rattle.map.proofs.take_line.Tie as tie
-use Rattle.map.proofs.take_line.Reads as reads
-use Rattle.map.proofs.take_line.Lts as lts
-use Rattle.tables.proofs.clear.Reads as clear-reads
-use Rattle.tables.proofs.emptied.Reads as emptied-reads
-use Rattle.tables.proofs.put_row.Reads as put-row-reads
-use Rattle.tables.proofs.row_at.Reads as row-at-reads
-use Rattle.tree.proofs.build.Reads as build-reads
 
--- src/lib.rt:179:9
 row-at-requires : tie.Need-row-at-requires
 row-at-requires c κs = search needs
 
--- src/lib.rt:180:26
 emptied-requires : tie.Need-emptied-requires
 emptied-requires c κs = search needs
 
--- src/lib.rt:180:5
 put-row-requires : tie.Need-put-row-requires
 put-row-requires c κs = search needs
 
--- src/lib.rt:181:5
 clear-requires : tie.Need-clear-requires
 clear-requires c κs = search needs
 
--- src/lib.rt:182:5
 clear-requires-2 : tie.Need-clear-requires-2
 clear-requires-2 c κs = search needs
 
--- src/lib.rt:183:5
 build-requires : tie.Need-build-requires
 build-requires c κs = freed-good (c .before .before .before .before .before .before .before .before .before .before .before .before .before .before .before .before .before .before .before .before .before .pre) (c .before .before .before .before .before .before .before .before .before .before .before .before .before .before .before .before .row-at .ensures) (c .before .before .before .before .before .before .before .before .before .before .before .before .before .before .emptied .ensures) (c .before .before .before .before .before .before .before .before .before .before .before .before .before .put-row .ensures)
 
--- src/lib.rt:175:1
 same-length : tie.Need-same-length
 same-length c = search needs
 
--- src/lib.rt:175:1
 same-length-2 : tie.Need-same-length-2
 same-length-2 c = search needs
 
--- src/lib.rt:175:1
 same-length-3 : tie.Need-same-length-3
 same-length-3 c = search needs
 
--- src/lib.rt:175:1
 returns : tie.Need-returns
 returns c = taken-out (c .before .before .before .before .before .before .before .before .before .before .before .before .before .before .before .before .before .before .before .before .before .before .before .before .before .before .pre) (c .before .before .before .before .before .before .before .before .before .before .before .before .before .before .before .before .before .before .before .before .before .row-at .ensures) (c .before .before .before .before .before .before .before .before .before .before .before .before .before .before .before .before .before .before .before .emptied .ensures) (c .before .before .before .before .before .before .before .before .before .before .before .before .before .before .before .before .before .before .put-row .ensures) (c .before .before .before .before .before .before .before .before .before .before .before .before .before .before .clear .ensures) (c .before .before .before .before .before .before .before .before .before .before .clear2 .ensures) (c .before .before .before .before .build .ensures)
 

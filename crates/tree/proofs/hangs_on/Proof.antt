@@ -6,29 +6,23 @@ use borrow.Author.Needs.{needs}
 use Rattle.tree.proofs.hangs_on.Statement.{statement}
 use Rattle.tree.proofs.hangs_on.Tie as tie
 
--- src/lib.rt:34:8
 same-point-requires : tie.Need-same-point-requires
 same-point-requires c κs = search needs
 
--- src/lib.rt:35:17
 inside-requires : tie.Need-inside-requires
 inside-requires c κs = search needs
 
--- src/lib.rt:35:9
 returns : tie.Need-returns
 returns c =
     let a = c .before .before .before .args in
     ap not (c .inside .ensures) ∙ sym (hangs-first (blockOf (a .k)) (a .v) (lineOf (a .l)) (sym (c .before .before .same-point .ensures) ∙ c .before .if1 .taken))
 
--- src/lib.rt:37:5
 same-point-requires-2 : tie.Need-same-point-requires-2
 same-point-requires-2 c κs = search needs
 
--- src/lib.rt:37:27
 inside-requires-2 : tie.Need-inside-requires-2
 inside-requires-2 c κs = search needs
 
--- src/lib.rt:31:1
 returns-2 : tie.Need-returns-2
 returns-2 c =
     let a = c .before .before .before .before .args in
