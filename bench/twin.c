@@ -2,7 +2,7 @@
 ** The tree is built into scratch and compared; conflicts are tested in leaves only; a lookup walks its column of leaves. */
 #include "calls.h"
 
-enum { FEW = 12, DEPTH = 24, START = 4, MOST = 64, LEVELS = 14, STACKED = 57 * SLOTS };
+enum { FEW = 12, DEPTH = 12, START = 4, MOST = 64, LEVELS = 14, STACKED = 57 * SLOTS };
 
 struct met { bool nw, ne, sw, se; };
 struct span { size_t from, to, free; };

@@ -232,12 +232,6 @@ over-snoc : (t s : List ℕ) (at v : ℕ) → set (over at t s) (at + length t) 
 unfolding over
 over-snoc t s at v = over-append t (v ∷ []) s at
 
--- a loop that copies: before the first turn, and one turn more
-pub over-none : (f s : List ℕ) (at : ℕ) → s ≡ over at (take 0 f) s
-unfolding over
-over-none [] s at = refl
-over-none (a ∷ f) s at = refl
-
 pub over-turn : (f s d : List ℕ) (at i : ℕ) → i < length f → d ≡ over at (take i f) s → set d (at + i) (getD f i 0) ≡ over at (take (i + 1) f) s
 over-turn f s d at i h e = rw (add-one, take-suc f i 0, ← over-snoc, ← e, length-take-le i f (omega arith))
 

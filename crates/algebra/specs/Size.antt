@@ -54,8 +54,3 @@ abs-sub-le a b m n h k = omega (arith, abs-sub a b)
 
 pub abs-mul-le : (a b : ℤ) (m n : ℕ) → natAbs a ≤ m → natAbs b ≤ n → natAbs (a *ℤ b) ≤ m * n
 abs-mul-le a b m n h k = rw abs-mul (mul-le-mul h k)
-
--- two numbers that are not negative: the difference is within the same bound
-pub abs-diff : (a b m : ℕ) → a ≤ m → b ≤ m → natAbs (pos a -ℤ pos b) ≤ m
-abs-diff a zero m h k = omega arith
-abs-diff a (suc b) m h k = abs-subℕ a (suc b) m h k

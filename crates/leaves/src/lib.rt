@@ -23,7 +23,7 @@ ghost use Rattle.leaves.specs.Pass.{clearOf, leafApart, Good, TreeUsed};
 const FEW: usize = 12;
 
 // Each level has its own array on the stack; what is left whole below the last is tested pair by pair.
-const DEPTH: u16 = 24;
+const DEPTH: u16 = 12;
 
 // l conflicts with the line of one of the slots.
 pub fn conflicts_with(lines: &[u16], slots: &[u16], l: Line) -> bool

@@ -17,7 +17,7 @@ use Rattle.definitions.specs.Lookup.{westEnd, eastEnd, run, higher}
 use Rattle.definitions.specs.Meaning.{Live}
 use Rattle.definitions.specs.Shape.{Line, turn}
 use Rattle.definitions.specs.Tables.{lineAt, noneConflict}
-use Rattle.meaning.specs.Answering.{none-conflicts, live-total}
+use Rattle.meaning.specs.Answering.{none-conflicts}
 use Rattle.meaning.specs.Rank.{Over, Higher, higher→, higher←, higher-not, asym, higher-trans, by-turns, run-some}
 use Rattle.meaning.specs.Turns.{turn-is, higherByTurns}
 
@@ -203,19 +203,3 @@ module _ (lines : List ℕ) (p : Point) (sound : noneConflict lines ≡ true) wh
   scan-by-turns d q A c (s ∷ ss) v o t =
       scan-by-turns d q (λ (u : ℕ). A u ⊎ (u ≡ s)) (better lines q (ahead d (p .x .0)) c s) ss (λ n m. v n (List·Memᴰ·tail m)) o (tops-better lines d (p .x .0) q A c s (v s (List·Memᴰ·head refl)) (o s) t)
       ∙ ap (λ (r : Found). scan lines q (aheadByTurns d) r ss) (better-by-turns d q A c s (v s (List·Memᴰ·head refl)) (o s) t)
-
-  -- the best is one
-  pub best-one-of : (d : Bool) (q : Line → Bool) (c e : Found) → Best lines d (p .x .0) q c → Best lines d (p .x .0) q e → c ≡ e
-  unfolding Best Ahead
-  best-one-of d q c e (noTop f) (noTop g) = refl
-  best-one-of d q c e (noTop f) (top u k g) = absurd (f u 0 k)
-  best-one-of d q c e (top s k f) (noTop g) = absurd (g s 0 k)
-  best-one-of d q c e (top s k f) (top u j g) = ap At (go d (f u 0 j) (g s 0 k) (live-total lines p sound s u (k .lives) (j .lives) (k .over) (j .over)))
-    where
-      go : (d : Bool) → (Ahead d (p .x .0) (lineAt lines u) (lineAt lines s) → ⊥) → (Ahead d (p .x .0) (lineAt lines s) (lineAt lines u) → ⊥)
-          → (s ≡ u) ⊎ (Higher (p .x .0) (lineAt lines s) (lineAt lines u) ⊎ Higher (p .x .0) (lineAt lines u) (lineAt lines s)) → s ≡ u
-      go d f g (inl e) = e
-      go true f g (inr (inl h)) = absurd (g h)
-      go true f g (inr (inr h)) = absurd (f h)
-      go false f g (inr (inl h)) = absurd (f h)
-      go false f g (inr (inr h)) = absurd (g h)

@@ -1,6 +1,6 @@
 -- The four sons of a block of the tree are the tree's blocks one level down.
 use mathlib.Core.Path.{_≡_}
-use Prim.Native.Nat.{ℕ, zero, suc, _+_, _*_, _/_, _^_, _≤_}
+use Prim.Native.Nat.{ℕ, zero, suc, _+_, _/_, _^_, _≤_}
 use native.Mathlib.Nat.{pow-suc}
 use native.Mathlib.Omega.{arith}
 use Rattle.definitions.specs.Shape.{nwOf, neOf, swOf, seOf}
@@ -28,7 +28,3 @@ module _ (n w s : ℕ) where
 
   pub se-is : seOf (block (suc n) w s) ≡ block n (w + 2 ^ suc n) s
   se-is = λ i. record { west = w + half-power n i; south = s; side = half-power n i }
-
-  -- a block above level 0 is even
-  pub even-block : block (suc n) w s .side ≡ 2 * (block (suc n) w s .side / 2)
-  even-block = omega (arith, half-power n, double (suc n))

@@ -3,9 +3,9 @@ use mathlib.Core.Path.{_≡_, refl, sym, _∙_, ap}
 use mathlib.Core.Logic.{_↔_}
 use mathlib.Core.Bool.{Bool, true, false, not, _&&_}
 use mathlib.Core.List.{List, [], _∷_}
-use Prim.Native.Nat.{ℕ, _≤_, _<_}
-use lib.Dec.{leb, ltb, eqb}
-use borrow.Author.Tests.{leb-true, le-leb, ltb-true, lt-ltb, eqb-true, eq-eqb, not-true, not-false}
+use Prim.Native.Nat.{ℕ}
+use lib.Dec.{eqb}
+use borrow.Author.Tests.{eqb-true, eq-eqb, not-true, not-false}
 use Rattle.algebra.specs.Tests.{no-path, false-by, and-l, and-r, and-b}
 
 -- a && b && c is `chain a (b ∷ c ∷ [])`
@@ -48,13 +48,6 @@ module _ {A : Type 0} (b : Bool) (means : (b ≡ true) ↔ A) where
   -- what a test decides is so where it is not not so
   pub stable : (¬ A → ⊥) → A
   stable n = means .0 (not-false b (false-by (not b) (λ e. n (not-means .0 e))))
-
--- the tests on numbers
-pub leb-means : (a b : ℕ) → (leb a b ≡ true) ↔ (a ≤ b)
-leb-means a b = (leb-true a b, le-leb a b)
-
-pub ltb-means : (a b : ℕ) → (ltb a b ≡ true) ↔ (a < b)
-ltb-means a b = (ltb-true a b, lt-ltb a b)
 
 pub eqb-means : (a b : ℕ) → (eqb a b ≡ true) ↔ (a ≡ b)
 eqb-means a b = (eqb-true a b, eq-eqb a b)

@@ -92,25 +92,6 @@ module _ (lines : List ℕ) (d : Bool) (p : Point) (q : Line → Bool) (o : (l :
               up : (a b c : ℕ) → a < b → b ≤ c → a ≤ c
               up a b c h i = omega arith
 
-  -- the same, on its north side
-  pub seen-north : (k : Block) (S T : ℕ) (c : Found) → k .west ≤ p .x .0 → p .x .0 ≤ east k → k .south ≤ T → Seen lines d p q S T c
-      → Seen lines d p q S (north k) (scan lines q (ahead d (p .x .0)) c (listed (liveLines lines) k))
-  unfolding Seen
-  seen-north k S T c w e h t =
-      tops-less lines d (p .x .0) q (λ (u : ℕ). Between (p .x .0) S T (lineAt lines u) ⊎ List·Memᴰ u (listed (liveLines lines) k)) (λ (u : ℕ). Between (p .x .0) S (north k) (lineAt lines u)) _ either
-      (tops-scan lines d (p .x .0) q (λ (u : ℕ). Between (p .x .0) S T (lineAt lines u)) c (listed (liveLines lines) k) (λ s m. listed→ lines k s m .0) (λ s. o (lineAt lines s)) t)
-    where
-      either : (u : ℕ) → CountsAt lines (p .x .0) q u → Between (p .x .0) S (north k) (lineAt lines u) → Between (p .x .0) S T (lineAt lines u) ⊎ List·Memᴰ u (listed (liveLines lines) k)
-      either u j b = go (order (heightOver (p .x .0) (lineAt lines u)) (T * run (lineAt lines u)))
-        where
-          go : (heightOver (p .x .0) (lineAt lines u) ≤ T * run (lineAt lines u)) ⊎ (T * run (lineAt lines u) < heightOver (p .x .0) (lineAt lines u))
-              → Between (p .x .0) S T (lineAt lines u) ⊎ List·Memᴰ u (listed (liveLines lines) k)
-          go (inl i) = inl (record { fromSouth = b .fromSouth; toNorth = i })
-          go (inr i) = inr (listed← lines k u (j .lives) (column-meets (p .x .0) k (lineAt lines u) (j .over) w e (record { fromSouth = up _ _ _ (mul-le-mul-right (run (lineAt lines u)) h) i; toNorth = b .toNorth })))
-            where
-              up : (a b c : ℕ) → a ≤ b → b < c → a ≤ c
-              up a b c h i = omega arith
-
   -- what is best stays best, whatever is looked at
   pub best-scan : (c : Found) (k : Block) → Best lines d (p .x .0) q c → Best lines d (p .x .0) q (scan lines q (ahead d (p .x .0)) c (listed (liveLines lines) k))
   unfolding Best

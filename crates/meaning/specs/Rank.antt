@@ -190,10 +190,6 @@ pub level-steep : (x : ℕ) (l m : Line) → Over x l → Over x m → Clear l m
 unfolding Clear weighted
 level-steep x l m o q clear e f = go (toEast x l) refl (toEast x m) refl
   where
-    pred : (n : ℕ) → 0 < n → (k : ℕ) × (n ≡ suc k)
-    pred zero h = absurd (omega arith)
-    pred (suc k) h = (k, refl)
-
     go : (v : ℕ) → toEast x l ≡ v → (t : ℕ) → toEast x m ≡ t → ⊥
     go zero h t i = omega (arith, some-east x l o)
     go (suc v) h zero i = omega (arith, some-east x m q)

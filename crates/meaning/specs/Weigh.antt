@@ -11,9 +11,6 @@ use Rattle.meaning.specs.Crossing.{Proper, Mix, mix-line, mix-inner}
 pub flat : (ax bx x u v : ℕ) → ax + u ≡ x → x + v ≡ bx → ax * v + bx * u ≡ x * (v + u)
 flat ax bx x u v e f = rw (← f, ← e) (omega arith)
 
-pub above-0 : (k v : ℕ) → 0 < k → 0 < v → 0 < k * v
-above-0 k v h i = mul-pos h i
-
 -- the spot with weights v, u on l is the spot with weights t, s on m, and strictly inside l
 pub common : (l m : Line) (v u t s : ℕ) → Proper l → 0 < v → 0 < u → 0 < t + s
     → (l .a .x .0 * v + l .b .x .0 * u) * (t + s) ≡ (m .a .x .0 * t + m .b .x .0 * s) * (v + u)

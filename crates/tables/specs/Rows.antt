@@ -75,14 +75,6 @@ module _ (lines : List ℕ) (s : ℕ) {r : Row} (e : r ≡ rowAt lines s) where
   unfolding entriesOf upperLabel
   upper-label-at = ap (λ (w : Row). upperLabel (entriesOf w) 0) e
 
-  pub live-sound-at : liveSound (entriesOf r) 0 ≡ liveSound lines s
-  unfolding entriesOf liveSound
-  live-sound-at = ap (λ (w : Row). liveSound (entriesOf w) 0) e
-
-  pub empty-sound-at : emptySound (entriesOf r) 0 ≡ emptySound lines s
-  unfolding entriesOf emptySound
-  empty-sound-at = ap (λ (w : Row). emptySound (entriesOf w) 0) e
-
   pub slot-sound-at : slotSound (entriesOf r) 0 ≡ slotSound lines s
   unfolding entriesOf slotSound isLive liveSound emptySound
   slot-sound-at = ap (λ (w : Row). slotSound (entriesOf w) 0) e

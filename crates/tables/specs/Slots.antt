@@ -2,13 +2,13 @@
 use mathlib.Core.Path.{_≡_, refl, sym, ap, _∙_}
 use mathlib.Core.Bool.{Bool, true, false}
 use mathlib.Core.List.{List, [], _∷_}
-use Prim.Native.Nat.{ℕ, suc, _+_, _-_, _≤_, _<_}
+use Prim.Native.Nat.{ℕ, suc, _+_, _-_, _*_, _/_, _≤_, _<_}
 use native.Mathlib.Numerals.{add-one}
 use native.Mathlib.Omega.{arith}
 use lib.ListN.{length, take, drop}
 use Rattle.algebra.specs.Words.{those, upFrom}
-use Rattle.algebra.specs.Lists.{those-yes, those-no}
-use Rattle.definitions.specs.Tables.{liveSlots}
+use Rattle.algebra.specs.Lists.{those-yes, those-no, those-length, upFrom-length}
+use Rattle.definitions.specs.Tables.{isLive, slotsOf, liveSlots}
 use Rattle.tables.specs.declared.Slot.{Slot}
 use Rattle.tables.specs.declared.Slot.the-variants.{At, None}
 
@@ -61,3 +61,8 @@ module _ (p : ℕ → Bool) (n : ℕ) where
     where
       none : n - s ≡ 0
       none = omega arith
+
+-- ---- how many live slots there are
+pub live-few : (lines : List ℕ) → 8 * length (liveSlots lines) ≤ length lines
+unfolding liveSlots slotsOf
+live-few lines = omega (arith, those-length (isLive lines) (upFrom 0 (length lines / 8)), upFrom-length 0 (length lines / 8))

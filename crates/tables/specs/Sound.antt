@@ -110,9 +110,6 @@ module _ (lines : List ℕ) where
     pub live-on-map : OnMap lines s
     live-on-map = let q = live-slot m in on-map lines s (q .0) (sound-at sound (omega (arith, q .0))) (q .1)
 
-    pub live-ends-apart : samePoint (lineAt lines s .a) (lineAt lines s .b) ≡ false
-    live-ends-apart = let q = live-slot m in ends-apart lines s (q .0) (sound-at sound (omega (arith, q .0))) (q .1)
-
 -- ---- a line given
 module _ (g : Given) where
   pub given-on-grid : allOnGrid g ≡ true → (g .x1 ≤ 16383) × (g .y1 ≤ 16383) × (g .x2 ≤ 16383) × (g .y2 ≤ 16383)

@@ -12,9 +12,8 @@ use Rattle.definitions.specs.Shape.{Line, Block, wholeMap}
 use Rattle.definitions.specs.Tables.{lineAt, liveLines}
 use Rattle.definitions.specs.Tree.{Tree, treeBy, tree, baseRule, nodesOf, listingsOf}
 use Rattle.meaning.specs.Meeting.{meets-iff, turnAt-is}
-use Rattle.tables.specs.Copies.{live-few}
 use Rattle.tables.specs.Rows.{OnMap}
-use Rattle.tables.specs.Slots.{LiveFront}
+use Rattle.tables.specs.Slots.{LiveFront, live-few}
 use Rattle.tree.specs.declared.Built.{Built}
 use Rattle.tree.specs.Candidates.{meetsAt}
 use Rattle.tree.specs.Builds.{Grown, Ready, GoodTable, origin, treeFor, blockNodes, blockListings, TreeBuilt}
