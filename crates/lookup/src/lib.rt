@@ -162,6 +162,15 @@ fn earn(left: usize, more: usize) -> usize {
     MOST
 }
 
+fn walked(answer: u32, live: &[u16], left: usize) -> Reply
+    ensures { λ r. ⌜ r .answer ≡ answer ⌝ }
+{
+    Reply {
+        answer,
+        left: earn(left, live.len() / 8),
+    }
+}
+
 fn search_plainly(lines: &[u16], live: &[u16], p: Point, left: usize) -> Reply
     requires { ⌜ Plain (now lines) (now live) ⌝ }
     ensures { λ r. ⌜ r .answer ≡ answerAt (now (lines .entry)) p ⌝ }
@@ -324,21 +333,13 @@ fn walk_column(
         left -= 1;
         at = go_down(nodes, index, later, p, at);
         match walk_spot(lines, nodes, listings, index, p, at, best) {
-            Walk::Answer(answer) => {
-                return Reply {
-                    answer,
-                    left: earn(left, live.len() / 8),
-                };
-            }
+            Walk::Answer(n) => return walked(n, live, left),
             Walk::Going(d) => {
                 best = d;
             }
         }
         if at.by == 0 {
-            return Reply {
-                answer: answer_below(lines, best),
-                left: earn(left, live.len() / 8),
-            };
+            return walked(answer_below(lines, best), live, left);
         }
         at = take_up(later, at.by - 1);
     }

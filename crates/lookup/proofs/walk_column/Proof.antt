@@ -32,17 +32,17 @@ go-down-requires c κs = let l = c .before .before in let s = l .before .before 
 walk-spot-requires : tie.Need-walk-spot-requires Inv-loop μ-loop
 walk-spot-requires c κs = let g = c .before .before in let l = g .before .before .before .loop .inv in let d = g .go-down .ensures in let a = d .came .stands (l .0) in record { placed = a .placed; whole = d .whole; south-of = a .south-of; down = d .came .down (l .0) (l .1) }
 
-enum-known-answer : tie.Need-enum-known-answer Inv-loop μ-loop
-enum-known-answer c = search needs
+enum-known-n : tie.Need-enum-known-n Inv-loop μ-loop
+enum-known-n c = search needs
 
-earn-requires : tie.Need-earn-requires Inv-loop μ-loop
-earn-requires c κs = search needs
+walked-requires : tie.Need-walked-requires Inv-loop μ-loop
+walked-requires c κs = search needs
 
 same-length : tie.Need-same-length Inv-loop μ-loop
 same-length c = search needs
 
 returns : tie.Need-returns Inv-loop μ-loop
-returns c = let k = c .before in rw (k .before .answer .given .1) at (k .before .before .before .walk-spot .ensures)
+returns c = let k = c .before in c .walked .ensures ∙ (rw (k .before .n .given .1) at (k .before .before .before .walk-spot .ensures))
 
 enum-known-d : tie.Need-enum-known-d Inv-loop μ-loop
 enum-known-d c = search needs
@@ -50,14 +50,14 @@ enum-known-d c = search needs
 answer-below-requires : tie.Need-answer-below-requires Inv-loop μ-loop
 answer-below-requires c κs = let w = c .before .before in let s = w .before .before .before .before .before .before .before .before .before .before .before .before .before .before .before .before .before in let l = w .before .before .before .before .before .before .before .before .before .loop .inv in let g = w .before .before .before .before .before .before .go-down in let a = g .ensures .came .stands (l .0) in let d : Down (s .args .lines .now) (s .args .p) _ _ = rw (w .before .d .given .1) at (w .before .before .before .walk-spot .ensures) in record { point = s .args .p; under = d .under }
 
-earn-requires-2 : tie.Need-earn-requires-2 Inv-loop μ-loop
-earn-requires-2 c κs = search needs
+walked-requires-2 : tie.Need-walked-requires-2 Inv-loop μ-loop
+walked-requires-2 c κs = search needs
 
 same-length-2 : tie.Need-same-length-2 Inv-loop μ-loop
 same-length-2 c = search needs
 
 returns-2 : tie.Need-returns-2 Inv-loop μ-loop
-returns-2 c = let b = c .before in let w = b .before .before .before in let s = w .before .before .before .before .before .before .before .before .before .before .before .before .before .before .before .before .before in let l = w .before .before .before .before .before .before .before .before .before .loop .inv in let g = w .before .before .before .before .before .before .go-down in let a = g .ensures .came .stands (l .0) in let d : Down (s .args .lines .now) (s .args .p) _ _ = rw (w .before .d .given .1) at (w .before .before .before .walk-spot .ensures) in b .answer-below .ensures ∙ down-end (s .pre .0 .chart .map .sound .apart) (s .pre .1 .y-least) (subst (λ (S : ℕ). Down (s .args .lines .now) (s .args .p) S (w .before .d .given .0 .0)) (grounded (a .put-by) (b .before .if1 .taken)) d)
+returns-2 c = let b = c .before in let w = b .before .before .before in let s = w .before .before .before .before .before .before .before .before .before .before .before .before .before .before .before .before .before in let l = w .before .before .before .before .before .before .before .before .before .loop .inv in let g = w .before .before .before .before .before .before .go-down in let a = g .ensures .came .stands (l .0) in let d : Down (s .args .lines .now) (s .args .p) _ _ = rw (w .before .d .given .1) at (w .before .before .before .walk-spot .ensures) in c .walked2 .ensures ∙ b .answer-below .ensures ∙ down-end (s .pre .0 .chart .map .sound .apart) (s .pre .1 .y-least) (subst (λ (S : ℕ). Down (s .args .lines .now) (s .args .p) S (w .before .d .given .0 .0)) (grounded (a .put-by) (b .before .if1 .taken)) d)
 
 sub-take-up : tie.Need-sub-take-up Inv-loop μ-loop
 sub-take-up c = let z = c .before .before .if1 .left in search needs
@@ -91,13 +91,13 @@ walk-column-spec =
     sub-left
     go-down-requires
     walk-spot-requires
-    enum-known-answer
-    earn-requires
+    enum-known-n
+    walked-requires
     same-length
     returns
     enum-known-d
     answer-below-requires
-    earn-requires-2
+    walked-requires-2
     same-length-2
     returns-2
     sub-take-up
