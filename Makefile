@@ -6,6 +6,7 @@
 # make examples  writes what the examples are expected to give anew: read the difference
 # make bench     times every call on the maps of bench/maps, beside a twin in C and the naive way
 # make bench-instructions  counts instructions with callgrind, where the machine is noisy
+# make bench-others  sets the library beside GEOS and Boost, where libgeos-dev and libboost-dev are installed
 # make performance  writes docs/PERFORMANCE.md and its picture anew from both
 # make bench-maps   writes the made maps of bench/maps anew
 # make stack     how much stack each call needs
@@ -85,6 +86,29 @@ bench: build/bench/bench
 bench-instructions: build/bench/count
 	@bench/instructions.sh
 
+# GEOS and Boost are looked for when they are asked for, and only then.
+OTHERS = $(patsubst %,bench/%.cpp,others others-boost others-geos others-polygons)
+lacks = $(shell $(CXX) -E -x c++ -include $(1) /dev/null > /dev/null 2>&1 || echo $(2))
+ifneq ($(filter bench-others,$(MAKECMDGOALS)),)
+OTHERS_LACK := $(strip $(call lacks,geos_c.h,libgeos-dev) $(call lacks,boost/geometry/index/rtree.hpp,libboost-dev))
+endif
+
+build/bench/mapfile.o: bench/mapfile.c bench/mapfile.h include/boundary_map.h
+	@mkdir -p build/bench
+	$(BUILD_C) -c bench/mapfile.c -o $@
+
+build/bench/others: $(OTHERS) bench/others.h bench/others-geos.h build/bench/mapfile.o $(BENCH_HEADERS) $(LIB)
+	@mkdir -p build/bench
+	$(CXX) -std=c++17 -Wall -Wextra $(CFLAGS) -Iinclude $(OTHERS) build/bench/mapfile.o $(LIB) $(LDFLAGS) -lgeos_c -o $@
+
+ifeq ($(OTHERS_LACK),)
+bench-others: build/bench/others
+	@build/bench/others $(BENCH_MAPS)
+else
+bench-others:
+	@echo 'bench-others: install first: $(OTHERS_LACK)'
+endif
+
 bench-maps: build/bench/make-maps
 	@build/bench/make-maps bench/maps
 
@@ -110,4 +134,4 @@ install: build/boundary-map
 clean:
 	rm -rf build
 
-.PHONY: all demo capacity check test valgrind bench bench-instructions bench-maps performance stack examples install clean
+.PHONY: all demo capacity check test valgrind bench bench-instructions bench-others bench-maps performance stack examples install clean
