@@ -1,6 +1,7 @@
 /* Times every call on maps, for the library, the twin and the naive way in one run: bench MAP..
 ** The ways take turns, call by call, so that what else the machine does falls on all alike; their answers and tables
-** are compared as it goes. Times are microseconds: the median, and the quartiles of the library's. */
+** are compared as it goes. Times are microseconds: the median, and the quartiles of the library's; ratios are medians of
+** the turns' ratios. */
 #define _POSIX_C_SOURCE 199309L
 #include "mapfile.h"
 #include "ways.h"
@@ -35,11 +36,20 @@ static int by_size(const void *a, const void *b) {
   return (x > y) - (x < y);
 }
 
-/* The time that a part of the times stay below; sorts them. */
-static double quantile(double *t, size_t count, double part) {
+/* The time that a part of the times stay below. */
+static double quantile(const double *t, size_t count, double part) {
+  static double sorted[MOST];
   if (count == 0) return 0;
-  qsort(t, count, sizeof *t, by_size);
-  return t[(size_t)((double)(count - 1) * part + 0.5)];
+  memcpy(sorted, t, count * sizeof *t);
+  qsort(sorted, count, sizeof *sorted, by_size);
+  return sorted[(size_t)((double)(count - 1) * part + 0.5)];
+}
+
+/* The median of a's times over b's, turn by turn: what slows the machine for a while falls on both. */
+static double ratio(const double *a, const double *b, size_t count) {
+  static double r[MOST];
+  for (size_t i = 0; i < count; i++) r[i] = a[i] / b[i];
+  return quantile(r, count, 0.5);
 }
 
 static void record(int call, int way, double t) {
@@ -151,19 +161,20 @@ static void measure(const char *name, size_t lines) {
 }
 
 static void print_call(const char *name, size_t lines, int call) {
-  double m[WAYS];
+  double m[WAYS], of_twin = ratio(times[call][LIBRARY], times[call][TWIN], taken[call][TWIN]);
+  double faster = ratio(times[call][NAIVE], times[call][LIBRARY], taken[call][NAIVE]);
   for (int way = 0; way < WAYS; way++) m[way] = quantile(times[call][way], taken[call][way], 0.5);
   printf("%-11s %5zu  %-12s %9.1f %9.1f %9.1f %9.1f %10.1f %7.2f %8.1f\n", name, lines, call_names[call],
          quantile(times[call][LIBRARY], taken[call][LIBRARY], 0.25), m[LIBRARY],
-         quantile(times[call][LIBRARY], taken[call][LIBRARY], 0.75), m[TWIN], m[NAIVE], m[LIBRARY] / m[TWIN],
-         m[NAIVE] / m[LIBRARY]);
+         quantile(times[call][LIBRARY], taken[call][LIBRARY], 0.75), m[TWIN], m[NAIVE], of_twin, faster);
 }
 
 static void print_plain(const char *name, size_t lines) {
+  double faster = ratio(plain, times[LOCATE10000][LIBRARY], plain_taken);
   double whole = quantile(times[LOCATE10000][LIBRARY], taken[LOCATE10000][LIBRARY], 0.5);
   double m = quantile(plain, plain_taken, 0.5);
   printf("%-11s %5zu  %-12s %9s %9.1f %9s %9s %10.1f %7s %8.1f\n", name, lines, "plain search", "-", whole, "-", "-", m,
-         "-", m / whole);
+         "-", faster);
 }
 
 int main(int argc, char **argv) {

@@ -201,10 +201,10 @@ The library stands beside two others in one run. The **twin** (bench/twin.c) is 
 lookup. The three take turns call by call, and their answers and tables are compared as it goes: a difference stops the run.
 
 Times are microseconds of processor time, whole calls, medians, the largest tables lent (1,024 slots, 16,384 nodes and
-listings), on {processor}, a machine with other work on it. Ratios say more than times;
+listings), on {processor}, a machine with other work on it. Ratios, each the median of the turns' own, say more than times;
 instructions, counted by callgrind, are the same in every run. Soundness is a locate of no points: it has the
 clearing and making of the lookup's index in it too. A line chosen by chance is deleted and inserted again. Points are
-spread evenly over the whole map.
+spread evenly over the whole map, but for ditches: there all points stand in the ditches.
 
 ## What was asked
 
@@ -229,7 +229,8 @@ The ns a point are those of locate 10000 without its check of the map.
 ## Other maps
 
 slivers: long thin wedges. furrows: plots of ten parallels, 24 steps apart. fences: loose, up to 300 steps. fans: wheels of
-16 spokes. hub250 to hub1000: one fan whose leaf lists all its spokes.
+16 spokes. ditches: three long upright ones of two banks, over whose points hundreds of leaves stand, and loose fences. hub250
+to hub1000: one fan whose leaf lists all its spokes.
 
 {others}
 
@@ -251,7 +252,8 @@ Against a plain search of all lines for each point, with no check of the map at 
 
 ## Pairs in a leaf
 
-A soundness check tests for conflict each two lines of one leaf. In `conflict` alone, without the loops around it:
+A soundness check tests for conflict each two lines of one leaf, in a fan those on one side. In `conflict` alone, without the
+loops around it:
 
 {shares}
 

@@ -1,3 +1,4 @@
+-- `leaves::fan_conflicts` and `leaves::side_conflicts` meet their contracts. The measure is twice the levels left, and one more for a side.
 use mathlib.Core.Path.{refl, ap, _∙_}
 use mathlib.Core.Bool.{not}
 use mathlib.Core.List.{List}
