@@ -218,6 +218,7 @@ struct walk {
 /* True once the answer is found. When the best line below passes at the leaf's south side or above, nothing further
 ** south is higher. */
 static bool walk_leaf(const struct lookup *m, const u16 *slots, size_t count, u16 south, struct walk *w) {
+  if (count == 0 && w->best == NOTHING) return false;
   if (scan_slots(m->lines, slots, count, w->p, &w->best, &w->answer)) return true;
   if (w->best == NOTHING) return false;
   struct line e = eastward(line_at(m->lines, w->best));

@@ -157,3 +157,9 @@ label-one lines s = refl
 
 pub scan-best : {lines slots : List ℕ} {p : Point} {c d d′ : Found} {r : Scan} → ScanIs lines p c slots r → r ≡ Scanned.Best d → d ≡ d′ → NoneOn lines p c slots d′
 scan-best {lines} {slots} {p} {c} h e f = subst (λ (x : Found). NoneOn lines p c slots x) f (subst (λ (x : Scan). ScanIs lines p c slots x) e h)
+
+-- a list of no slots
+pub none-there : {lines slots : List ℕ} {p : Point} {c : Found} → length slots ≡ 0 → Under lines p c → NoneOn lines p c slots c
+unfolding firstOn scan
+none-there {slots = []} e u = record { none-on = refl; best = refl; under = u }
+none-there {slots = s ∷ more} e u = absurd (omega arith)

@@ -275,10 +275,16 @@ fn take_up(later: &[u16], by: usize) -> Spot
 }
 
 // A leaf of the column: once the best line below passes at its south side or above, nothing further south is higher.
+// Most leaves on the way have no line, and nothing is found before them.
 fn walk_leaf(lines: &[u16], slots: &[u16], p: Point, k: Block, c: Found) -> Walk
     requires { ⌜ LeafOver (now lines) (now slots) p (blockOf k) c ⌝ }
     ensures { λ r. ⌜ WalkIs (now (lines .entry)) p (k .south .0) r ⌝ }
 {
+    if slots.len() == 0 {
+        if let Found::Nothing = c {
+            return Walk::Going(c);
+        }
+    }
     match scan_slots(lines, slots, p, c) {
         Scan::On(s) => Walk::Answer(answer_on(s)),
         Scan::Best(best) => match best {

@@ -3,12 +3,22 @@ use mathlib.Core.Path.{refl, sym, ap, _∙_}
 use borrow.Author.Needs.{needs}
 use Rattle.meaning.specs.Walk.{reached}
 use Rattle.lookup.proofs.Descent.{leaf-scannable, leaf-on, leaf-reached, leaf-going, none-reached, reach-is}
-use Rattle.lookup.proofs.Scans.{under-map, scan-best}
+use Rattle.lookup.proofs.Scans.{under-map, scan-best, none-there}
 use Rattle.lookup.proofs.walk_leaf.Statement.{statement}
 use Rattle.lookup.proofs.walk_leaf.Tie as tie
 
+enum-told : tie.Need-enum-told
+enum-told c = search needs
+
+returns : tie.Need-returns
+returns c = let t = c .before .before in let s = t .before .before .before in
+    leaf-going (s .pre) (none-there (t .if1 .taken) (s .pre .down .under)) (ap (reached (s .args .lines .now) (s .args .p) (s .args .k .south .0)) (c .enum-told .given .1) ∙ none-reached _ _ _)
+
+enum-told-2 : tie.Need-enum-told-2
+enum-told-2 c = search needs
+
 scan-slots-requires : tie.Need-scan-slots-requires
-scan-slots-requires c κs = leaf-scannable (c .before .before .pre)
+scan-slots-requires c κs = leaf-scannable (c .before .before .before .pre)
 
 enum-known-s : tie.Need-enum-known-s
 enum-known-s c = search needs
@@ -19,8 +29,8 @@ answer-on-requires c κs = search needs
 enum-known-best : tie.Need-enum-known-best
 enum-known-best c = search needs
 
-enum-told : tie.Need-enum-told
-enum-told c = search needs
+enum-told-3 : tie.Need-enum-told-3
+enum-told-3 c = search needs
 
 enum-known-best-2 : tie.Need-enum-known-best-2
 enum-known-best-2 c = search needs
@@ -32,37 +42,40 @@ reaches-requires : tie.Need-reaches-requires
 reaches-requires c κs = search needs
 
 answer-below-requires : tie.Need-answer-below-requires
-answer-below-requires c κs = let x = c .before .before .before .before in let b = x .before .before .before in let g = b .before .before in record { point = g .before .before .before .args .p; under = scan-best (g .scan-slots .ensures) (b .best .given .1) (x .best2 .given .1) .under }
-
-returns : tie.Need-returns
-returns c = let t = c .before in let l = t .before .before in let x = l .before .before in let b = x .before .before .before in let g = b .before .before in let s = g .before .before .before in
-    c .answer-below .ensures ∙ leaf-reached (s .pre) (scan-best (g .scan-slots .ensures) (b .best .given .1) (x .best2 .given .1)) (sym (reach-is _ (s .args .p) (s .args .k .south) (l .line-at .ensures) (t .before .reaches .ensures)) ∙ t .if1 .taken)
+answer-below-requires c κs = let x = c .before .before .before .before in let b = x .before .before .before in let g = b .before .before in record { point = g .before .before .before .before .args .p; under = scan-best (g .scan-slots .ensures) (b .best .given .1) (x .best2 .given .1) .under }
 
 returns-2 : tie.Need-returns-2
-returns-2 c = let a = c .before .before in let g = a .before .before in c .answer-on .ensures ∙ leaf-on (g .before .before .before .pre) (rw (a .s .given .1) at (g .scan-slots .ensures))
+returns-2 c = let t = c .before in let l = t .before .before in let x = l .before .before in let b = x .before .before .before in let g = b .before .before in let s = g .before .before .before .before in
+    c .answer-below .ensures ∙ leaf-reached (s .pre) (scan-best (g .scan-slots .ensures) (b .best .given .1) (x .best2 .given .1)) (sym (reach-is _ (s .args .p) (s .args .k .south) (l .line-at .ensures) (t .before .reaches .ensures)) ∙ t .if2 .taken)
 
 returns-3 : tie.Need-returns-3
-returns-3 c = let b = c .before .before .before in let g = b .before .before in let s = g .before .before .before in
-    leaf-going (s .pre) (scan-best (g .scan-slots .ensures) (b .best .given .1) refl) (ap (reached (s .args .lines .now) (s .args .p) (s .args .k .south .0)) (c .enum-told .given .1) ∙ none-reached _ _ _)
+returns-3 c = let a = c .before .before in let g = a .before .before in c .answer-on .ensures ∙ leaf-on (g .before .before .before .before .pre) (rw (a .s .given .1) at (g .scan-slots .ensures))
 
 returns-4 : tie.Need-returns-4
-returns-4 c = let l = c .before .before in let x = l .before .before in let b = x .before .before .before in let g = b .before .before in let s = g .before .before .before in
-    leaf-going (s .pre) (scan-best (g .scan-slots .ensures) (b .best .given .1) (x .best2 .given .1)) (sym (reach-is _ (s .args .p) (s .args .k .south) (l .line-at .ensures) (c .before .reaches .ensures)) ∙ c .if1 .left)
+returns-4 c = let b = c .before .before .before in let g = b .before .before in let s = g .before .before .before .before in
+    leaf-going (s .pre) (scan-best (g .scan-slots .ensures) (b .best .given .1) refl) (ap (reached (s .args .lines .now) (s .args .p) (s .args .k .south .0)) (c .enum-told3 .given .1) ∙ none-reached _ _ _)
+
+returns-5 : tie.Need-returns-5
+returns-5 c = let l = c .before .before in let x = l .before .before in let b = x .before .before .before in let g = b .before .before in let s = g .before .before .before .before in
+    leaf-going (s .pre) (scan-best (g .scan-slots .ensures) (b .best .given .1) (x .best2 .given .1)) (sym (reach-is _ (s .args .p) (s .args .k .south) (l .line-at .ensures) (c .before .reaches .ensures)) ∙ c .if2 .left)
 
 pub walk-leaf-spec : {M : Type 1} → statement M
 walk-leaf-spec =
     tie.close
     (tie.spec
+    enum-told
+    returns
+    enum-told-2
     scan-slots-requires
     enum-known-s
     answer-on-requires
     enum-known-best
-    enum-told
+    enum-told-3
     enum-known-best-2
     line-at-requires
     reaches-requires
     answer-below-requires
-    returns
     returns-2
     returns-3
-    returns-4)
+    returns-4
+    returns-5)
