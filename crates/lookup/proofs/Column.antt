@@ -13,7 +13,7 @@ use Rattle.geometry.specs.Means.{blockOf}
 use Rattle.meaning.specs.declared.Found.{Found}
 use Rattle.walk.specs.Index.{Entries, Put}
 use Rattle.lookup.specs.declared.Spot.{Spot}
-use Rattle.lookup.specs.Asked.{Down, StripOver, PutBy, ground, next, Column, At-spot, SonEntry, of-upper, of-lower, Entered, GoneTo, to-upper, to-lower, GoneIn, Walking, Came, TakenUp, northOf, Charted, OnGrid}
+use Rattle.lookup.specs.Asked.{Down, StripOver, PutBy, ground, next, Column, AtSpot, SonEntry, of-upper, of-lower, Entered, GoneTo, to-upper, to-lower, GoneIn, Walking, Came, TakenUp, northOf, Charted, OnGrid}
 use Rattle.lookup.proofs.Descent.{down-past}
 use Rattle.lookup.proofs.Seats.{Halves, halves, above-ground, placed-there, map-placed, map-level}
 
@@ -125,7 +125,7 @@ module _ {lines nodes listings index later : List ℕ} {p : Point} where
   grounded (next x q f n u) e = absurd (omega arith)
 
   pub taken : {i j S : ℕ} {r : Spot} → PutBy lines nodes listings index later p i S → S < p .y .0 → suc j ≡ i → TakenUp later j r →
-      At-spot lines nodes listings index later p r × (northOf r ≡ S)
+      AtSpot lines nodes listings index later p r × (northOf r ≡ S)
   taken ground s e t = absurd (omega arith)
   taken {j = j} {r = r} (next {i = i} {node = node} {k = k} x q f n u) s e t = (there, ap north (sym block) ∙ n)
     where
@@ -138,12 +138,12 @@ module _ {lines nodes listings index later : List ℕ} {p : Point} where
       block : k ≡ blockOf (r .block)
       block = one-block x here
 
-      there : At-spot lines nodes listings index later p r
+      there : AtSpot lines nodes listings index later p r
       there =
           subst (λ (m : ℕ). Column lines nodes listings index later p (r .node) (blockOf (r .block)) m) (sym same ∙ sym (t .by-is))
           (subst (λ (j : Block). Column lines nodes listings index later p (r .node) j i) block
           (subst (λ (m : ℕ). Column lines nodes listings index later p m k i) (one-node x here)
           (record { placed = q; few = f; south-of = omega (arith, n); put-by = u })))
 
-  pub at-start : {r : Spot} → Charted lines nodes listings index → OnGrid p → (r .node ≡ 0) × (blockOf (r .block) ≡ wholeMap) × (r .by ≡ 0) → At-spot lines nodes listings index later p r
+  pub at-start : {r : Spot} → Charted lines nodes listings index → OnGrid p → (r .node ≡ 0) × (blockOf (r .block) ≡ wholeMap) × (r .by ≡ 0) → AtSpot lines nodes listings index later p r
   at-start h g e = rw (e .0, e .1, e .2) (record { placed = map-placed h (g .x-most); few = omega (arith, map-level p h (g .x-most)); south-of = omega (arith, g .y-least); put-by = ground })

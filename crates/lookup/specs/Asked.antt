@@ -155,8 +155,8 @@ pub record Column (lines nodes listings index later : List ℕ) (p : Point) (nod
   pub south-of : k .south < p .y .0
   pub put-by : PutBy lines nodes listings index later p by (k .south)
 
-abbrev pub At-spot : List ℕ → List ℕ → List ℕ → List ℕ → List ℕ → Point → Spot → Type 0
-At-spot lines nodes listings index later p at = Column lines nodes listings index later p (at .node) (blockOf (at .block)) (at .by)
+abbrev pub AtSpot : List ℕ → List ℕ → List ℕ → List ℕ → List ℕ → Point → Spot → Type 0
+AtSpot lines nodes listings index later p at = Column lines nodes listings index later p (at .node) (blockOf (at .block)) (at .by)
 
 -- the sides of a block that a spot stands at
 abbrev pub northOf : Spot → ℕ
@@ -194,13 +194,13 @@ pub record GoneIn (index : List ℕ) (p : Point) (at : Spot) (later later′ : L
 pub record Walking (nodes index later : List ℕ) (p : Point) (at : Spot) : Type 0 where
   pub lines : List ℕ
   pub listings : List ℕ
-  pub column : At-spot lines nodes listings index later p at
+  pub column : AtSpot lines nodes listings index later p at
   pub room : length later ≡ 64
 
 -- the walk of any map came from one spot to another of the same column: whatever was found north of the first is so of the second
 pub record Came (nodes index : List ℕ) (p : Point) (at : Spot) (later later′ : List ℕ) (r : Spot) : Type 0 where
-  pub stands : {lines listings : List ℕ} → At-spot lines nodes listings index later p at → At-spot lines nodes listings index later′ p r
-  pub down : {lines listings : List ℕ} → At-spot lines nodes listings index later p at → {c : Found} → Down lines p (northOf at) c → Down lines p (northOf r) c
+  pub stands : {lines listings : List ℕ} → AtSpot lines nodes listings index later p at → AtSpot lines nodes listings index later′ p r
+  pub down : {lines listings : List ℕ} → AtSpot lines nodes listings index later p at → {c : Found} → Down lines p (northOf at) c → Down lines p (northOf r) c
 
 -- and that is a leaf
 pub record GoneDown (nodes index : List ℕ) (p : Point) (at : Spot) (later later′ : List ℕ) (r : Spot) : Type 0 where

@@ -5,14 +5,14 @@ use native.Mathlib.Omega.{arith}
 use lib.ListN.{length}
 use borrow.Author.Needs.{needs}
 use Rattle.definitions.specs.Shape.{north}
-use Rattle.lookup.specs.Asked.{At-spot, northOf, Down}
+use Rattle.lookup.specs.Asked.{AtSpot, northOf, Down}
 use Rattle.lookup.proofs.Descent.{down-start, down-end}
 use Rattle.lookup.proofs.Column.{grounded, taken, at-start}
 use Rattle.lookup.proofs.walk_column.Statement.{statement}
 use Rattle.lookup.proofs.walk_column.Tie as tie
 
 abbrev Inv-loop : tie.InvT-loop
-Inv-loop lines nodes listings index live p later₀ leaves at₀ best₀ left₀ later at best left = At-spot lines nodes listings index later p at × Down lines p (northOf at) best × (length later ≡ length later₀)
+Inv-loop lines nodes listings index live p later₀ leaves at₀ best₀ left₀ later at best left = AtSpot lines nodes listings index later p at × Down lines p (northOf at) best × (length later ≡ length later₀)
 
 abbrev μ-loop : tie.MeasureT-loop
 μ-loop lines nodes listings index live p later₀ leaves at₀ best₀ left₀ later at best left = left
