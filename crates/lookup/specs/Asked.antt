@@ -158,7 +158,7 @@ pub record Column (lines nodes listings index later : List ℕ) (p : Point) (nod
 abbrev pub AtSpot : List ℕ → List ℕ → List ℕ → List ℕ → List ℕ → Point → Spot → Type 0
 AtSpot lines nodes listings index later p at = Column lines nodes listings index later p (at .node) (blockOf (at .block)) (at .by)
 
--- the sides of a block that a spot stands at
+-- the north side of the block that a spot stands at
 abbrev pub northOf : Spot → ℕ
 northOf at = at .block .south .0 + at .block .side
 

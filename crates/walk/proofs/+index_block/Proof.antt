@@ -1,6 +1,6 @@
 -- `walk::index_block` meets its contract. The measure is what is left of the node table: each son stands past its block.
 use mathlib.Core.Path.{refl, _∙_}
-use Prim.Native.Nat.{ℕ, _-_, _<_}
+use Prim.Native.Nat.{ℕ, _+_, _-_, _<_}
 use native.Mathlib.Omega.{arith}
 use lib.ListN.{length-set, length}
 use borrow.Author.Needs.{needs}
@@ -79,35 +79,29 @@ index-block-requires-3 t c κs = let b2 = c .before .before .before in let b1 = 
 index-block-requires-4 : (t : ℕ) → index-block-lts.Need-index-block-requires-4 (claims t) (at-measure t) index-block.Post
 index-block-requires-4 t c κs = let b3 = c .before .before .before in let b2 = b3 .before .before .before .before in let b1 = b2 .before .before .before .before in let e = b1 .before .before in let s = e .before .before .before .before in asked _ (next (next (next (four (s .pre .1 .standing) (e .if1 .left) .row) (b1 .index-block .ensures)) (b2 .index-block2 .ensures)) (b3 .index-block3 .ensures)) (s .pre) (b3 .index-block3 .kept .1 .0 ∙ b2 .index-block2 .kept .1 .0 ∙ b1 .index-block .kept .1 .0)
 
-cast-put-four : (t : ℕ) → index-block-lts.Need-cast-put-four (claims t) (at-measure t) index-block.Post
-cast-put-four t c =
-    let b4 = c .before .before .before in let b3 = b4 .before .before .before .before in let b2 = b3 .before .before .before .before in let b1 = b2 .before .before .before .before in let e = b1 .before .before in let w = e .before .before .before .before .pre .1 in
-    let r1 = four (w .standing) (e .if1 .left) .row in
-    omega (arith, w .few, there (head r1))
-
-cast-put-four-2 : (t : ℕ) → index-block-lts.Need-cast-put-four-2 (claims t) (at-measure t) index-block.Post
-cast-put-four-2 t c =
-    let b4 = c .before .before .before .before in let b3 = b4 .before .before .before .before in let b2 = b3 .before .before .before .before in let b1 = b2 .before .before .before .before in let e = b1 .before .before in let w = e .before .before .before .before .pre .1 in
-    let r1 = four (w .standing) (e .if1 .left) .row in
-    let r2 = next r1 (b1 .index-block .ensures) in
-    omega (arith, w .few, there (head r2))
-
-cast-put-four-3 : (t : ℕ) → index-block-lts.Need-cast-put-four-3 (claims t) (at-measure t) index-block.Post
-cast-put-four-3 t c =
-    let b4 = c .before .before .before .before .before in let b3 = b4 .before .before .before .before in let b2 = b3 .before .before .before .before in let b1 = b2 .before .before .before .before in let e = b1 .before .before in let w = e .before .before .before .before .pre .1 in
-    let r1 = four (w .standing) (e .if1 .left) .row in
-    let r2 = next r1 (b1 .index-block .ensures) in
-    let r3 = next r2 (b2 .index-block2 .ensures) in
-    omega (arith, w .few, there (head r3))
-
-cast-put-four-4 : (t : ℕ) → index-block-lts.Need-cast-put-four-4 (claims t) (at-measure t) index-block.Post
-cast-put-four-4 t c =
-    let b4 = c .before .before .before .before .before .before in let b3 = b4 .before .before .before .before in let b2 = b3 .before .before .before .before in let b1 = b2 .before .before .before .before in let e = b1 .before .before in let w = e .before .before .before .before .pre .1 in
+-- the nodes of the four sons, once all are walked
+few-sons : (t : ℕ) (b4 : index-block-lts.After-index-block4 (claims t) (at-measure t) index-block.Post) →
+    let b3 = b4 .before .before .before .before in let b2 = b3 .before .before .before .before in let b1 = b2 .before .before .before .before in
+    (b1 .before .before .before .before .before .before .args .at .node + 1 < 65536) × (b1 .index-block .result .node < 65536) × (b2 .index-block2 .result .node < 65536) × (b3 .index-block3 .result .node < 65536)
+few-sons t b4 =
+    let b3 = b4 .before .before .before .before in let b2 = b3 .before .before .before .before in let b1 = b2 .before .before .before .before in let e = b1 .before .before in let w = e .before .before .before .before .pre .1 in
     let r1 = four (w .standing) (e .if1 .left) .row in
     let r2 = next r1 (b1 .index-block .ensures) in
     let r3 = next r2 (b2 .index-block2 .ensures) in
     let r4 = next r3 (b3 .index-block3 .ensures) in
-    omega (arith, w .few, there (head r4))
+    omega (arith, w .few, there (head r1), there (head r2), there (head r3), there (head r4))
+
+cast-put-four : (t : ℕ) → index-block-lts.Need-cast-put-four (claims t) (at-measure t) index-block.Post
+cast-put-four t c = omega (arith, few-sons t (c .before .before .before))
+
+cast-put-four-2 : (t : ℕ) → index-block-lts.Need-cast-put-four-2 (claims t) (at-measure t) index-block.Post
+cast-put-four-2 t c = omega (arith, few-sons t (c .before .before .before .before))
+
+cast-put-four-3 : (t : ℕ) → index-block-lts.Need-cast-put-four-3 (claims t) (at-measure t) index-block.Post
+cast-put-four-3 t c = omega (arith, few-sons t (c .before .before .before .before .before))
+
+cast-put-four-4 : (t : ℕ) → index-block-lts.Need-cast-put-four-4 (claims t) (at-measure t) index-block.Post
+cast-put-four-4 t c = omega (arith, few-sons t (c .before .before .before .before .before .before))
 
 put-four-requires : (t : ℕ) → index-block-lts.Need-put-four-requires (claims t) (at-measure t) index-block.Post
 put-four-requires t c κs =
