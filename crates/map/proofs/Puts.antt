@@ -30,9 +30,6 @@ eight : (r : Row) → length (entriesOf r) ≡ 8
 unfolding entriesOf
 eight r = refl
 
-pub at-most : {m n : ℕ} → m ≡ n → m ≤ n
-at-most e = omega arith
-
 -- ---- a tree built into scratch as long as the lent tables
 module _ (nodes listings : List ℕ) {lines built named built′ named′ : List ℕ} {r : Built} (n : built ≡ replicate (length nodes) 0) (m : named ≡ replicate (length listings) 0)
     (b : TreeBuilt lines built named built′ named′ r) where
