@@ -94,19 +94,21 @@ leafAt p (divided nw ne sw se) k first =
       | false ↦ elim (ltb (p .y .0) (k .south + k .side / 2)) [ true ↦ leafAt p se (seOf k) atSE | false ↦ leafAt p ne (neOf k) atNE ]
     ]
 
--- what show leaf tells, and the part of the listing table that it hands back
+-- what show leaf tells, and the part of the listing table that it hands back: where it starts, and its entries
 pub record Showing : Type 0 where
   pub told : Shown
+  pub first : ℕ
   pub part : List ℕ
 
 -- on refusal the side and corner are 0 and the part has length 0
 abbrev pub notShown : Answer → Showing
-notShown r = record { told = record { answer = r; side = 0; west = record { 0 = 0 }; south = record { 0 = 0 } }; part = [] }
+notShown r = record { told = record { answer = r; side = 0; west = record { 0 = 0 }; south = record { 0 = 0 } }; first = 0; part = [] }
 
 abbrev pub shownAt : Leaf → List ℕ → Showing
 shownAt f listings =
     record {
       told = record { answer = Done 0; side = f .place .side; west = record { 0 = f .place .west }; south = record { 0 = f .place .south } };
+      first = f .first;
       part = take (f .lists) (drop (f .first) listings);
     }
 

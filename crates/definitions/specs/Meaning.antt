@@ -1,17 +1,17 @@
 -- What the tests mean, in the paper's words. Nothing here computes; `meaning` proves that each test says just this.
 use mathlib.Core.Path.{_≡_}
 use mathlib.Core.Logic.{_⊎_, _↔_}
-use mathlib.Core.List.{List, List·Memᴰ}
+use mathlib.Core.List.{List, _∷_, _++_, List·Memᴰ}
 use Prim.Native.Nat.{ℕ, _+_, _*_, _/_, _≤_, _<_}
 use lib.IntN.{ℤ, pos, subℕ, _*ℤ_, _-ℤ_}
-use lib.ListN.{length}
+use lib.ListN.{length, getD}
 use native.Mathlib.Omega.{arith}
 use Rattle.algebra.specs.Words.{Rising}
 use Rattle.definitions.specs.declared.Point.{Point}
 use Rattle.definitions.specs.Shape.{Line, Block, east, north, nwOf, neOf, swOf, seOf, gridPoint, minX, maxX, minY, maxY}
-use Rattle.definitions.specs.Tree.{Rule, Tree, leaf, divided}
-use Rattle.definitions.specs.Tables.{Tables, entry, live, generation, x1, y1, x2, y2, lineAt, nodeTable, listingTable}
-use Rattle.definitions.specs.Lookup.{westEnd, eastEnd, run, upperLabel}
+use Rattle.definitions.specs.Tree.{Rule, Tree, leaf, divided, tree, listingsOf}
+use Rattle.definitions.specs.Tables.{Tables, entry, live, generation, x1, y1, x2, y2, leftLabel, rightLabel, lineAt, liveLines}
+use Rattle.definitions.specs.Lookup.{westEnd, eastEnd, run}
 
 -- ---- A common point
 
@@ -102,6 +102,36 @@ pub data LeafAt : Block → Tree → Block → List ℕ → Type 0 where
   inSW : {k j : Block} {a b c d : Tree} {list : List ℕ} → LeafAt (swOf k) c j list → LeafAt k (divided a b c d) j list
   inSE : {k j : Block} {a b c d : Tree} {list : List ℕ} → LeafAt (seOf k) d j list → LeafAt k (divided a b c d) j list
 
+-- the same leaf, and how many listing entries come before its own: those of the sons before it
+pub data ListedFrom : Block → Tree → Block → ℕ → Type 0 where
+  atOnce : {k j : Block} {slots : List ℕ} {n : ℕ} → j ≡ k → n ≡ 0 → ListedFrom k (leaf slots) j n
+  fromNW : {k j : Block} {a b c d : Tree} {n : ℕ} → ListedFrom (nwOf k) a j n → ListedFrom k (divided a b c d) j n
+  fromNE : {k j : Block} {a b c d : Tree} {m n : ℕ} → ListedFrom (neOf k) b j m → n ≡ length (listingsOf a) + m → ListedFrom k (divided a b c d) j n
+  fromSW : {k j : Block} {a b c d : Tree} {m n : ℕ} → ListedFrom (swOf k) c j m → n ≡ length (listingsOf a) + length (listingsOf b) + m → ListedFrom k (divided a b c d) j n
+  fromSE : {k j : Block} {a b c d : Tree} {m n : ℕ} → ListedFrom (seOf k) d j m → n ≡ length (listingsOf a) + length (listingsOf b) + length (listingsOf c) + m → ListedFrom k (divided a b c d) j n
+
+-- ---- The tree in the two tables
+
+-- the tables start with the tree, in preorder, and go on with a rest: a divided block has 65,535 and then its sons NW, NE, SW, SE;
+-- a leaf has how many it lists, and its slots come next in the listing table
+pub data Stored : Tree → List ℕ → List ℕ → List ℕ → List ℕ → Type 0 where
+  atLeaf : {slots nodes listings n l : List ℕ} → nodes ≡ length slots ∷ n → listings ≡ slots ++ l → Stored (leaf slots) nodes listings n l
+  atFour : {nw ne sw se : Tree} {nodes listings n0 n1 n2 n3 n4 l1 l2 l3 l4 : List ℕ} → nodes ≡ 65535 ∷ n0
+      → Stored nw n0 listings n1 l1 → Stored ne n1 l1 n2 l2 → Stored sw n2 l2 n3 l3 → Stored se n3 l3 n4 l4
+      → Stored (divided nw ne sw se) nodes listings n4 l4
+
+-- every entry is 0
+abbrev pub Zeros : List ℕ → Type 0
+Zeros table = (i : ℕ) → getD table i 0 ≡ 0
+
+-- the two tables of a tree: entries after the last used are 0
+pub record Tabled (t : Tree) (nodes listings : List ℕ) : Type 0 where
+  pub nodesAfter : List ℕ
+  pub listingsAfter : List ℕ
+  pub stored : Stored t nodes listings nodesAfter listingsAfter
+  pub nodes0 : Zeros nodesAfter
+  pub listings0 : Zeros listingsAfter
+
 -- ---- A sound map
 
 -- the slot's line lives
@@ -123,8 +153,7 @@ EmptySlot lines s = (k : ℕ) → k < 8 → (k ≡ 1 → ⊥) → entry lines s 
 pub record SoundMap (rule : Rule) (t : Tables) : Type 0 where
   pub slots : (s : ℕ) → s < length (t .lines) / 8 → LiveSlot (t .lines) s ⊎ EmptySlot (t .lines) s
   pub apart : (s u : ℕ) → Live (t .lines) s → Live (t .lines) u → (s ≡ u → ⊥) → ¬ Conflicts (lineAt (t .lines) s) (lineAt (t .lines) u)
-  pub nodes : t .nodes ≡ nodeTable rule (length (t .nodes)) (t .lines)
-  pub listings : t .listings ≡ listingTable rule (length (t .listings)) (t .lines)
+  pub tables : Tabled (tree rule (liveLines (t .lines))) (t .nodes) (t .listings)
 
 -- ---- The lookup, over heights as fractions
 
@@ -157,6 +186,11 @@ Steeper l m = westEnd l .y .0 * run m + eastEnd m .y .0 * run l < eastEnd l .y .
 unfoldable pub NoneHigher : Line → Spot → Line → Spot → Type 0
 NoneHigher l s m t = (t .Y * s .Z < s .Y * t .Z) ⊎ ((t .Y * s .Z ≡ s .Y * t .Z) × (Steeper m l → ⊥))
 
+-- n is the label of the line's upper side: left if x1 < x2, else right
+pub record UpperLabel (lines : List ℕ) (s n : ℕ) : Type 0 where
+  pub left : x1 lines s < x2 lines s → n ≡ leftLabel lines s
+  pub right : x2 lines s ≤ x1 lines s → n ≡ rightLabel lines s
+
 -- n answers to p
 pub data Answers (lines : List ℕ) (p : Point) (n : ℕ) : Type 0 where
   -- on a live line: the lowest such slot
@@ -167,7 +201,7 @@ pub data Answers (lines : List ℕ) (p : Point) (n : ℕ) : Type 0 where
   under : ((u : ℕ) → Live lines u → Through p (lineAt lines u) → ⊥)
       → (s : ℕ) → Live lines s → (b : CountsBelow p (lineAt lines s))
       → ((u : ℕ) → Live lines u → (c : CountsBelow p (lineAt lines u)) → NoneHigher (lineAt lines s) (b .spot) (lineAt lines u) (c .spot))
-      → n ≡ upperLabel lines s → Answers lines p n
+      → UpperLabel lines s n → Answers lines p n
   -- no such line
   outside : ((u : ℕ) → Live lines u → Through p (lineAt lines u) → ⊥)
       → ((u : ℕ) → Live lines u → CountsBelow p (lineAt lines u) → ⊥)

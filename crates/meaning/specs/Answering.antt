@@ -7,16 +7,16 @@ use Prim.Native.Nat.{ℕ, zero, suc, _+_, _*_, _/_, _≤_, _<_}
 use native.Mathlib.Omega.{arith}
 use lib.ListN.{length}
 use lib.Dec.{eqb}
-use borrow.Author.Tests.{le-leb, lt-leb, eqb-true, eqb-false, eq-eqb, not-true}
+use borrow.Author.Tests.{le-leb, lt-leb, lt-ltb, le-ltb, eqb-true, eqb-false, eq-eqb, not-true}
 use Rattle.definitions.specs.declared.Point.{Point}
 use Rattle.algebra.specs.Lists.{those-yes, those-no, in-those, of-those, every→, in-upFrom, to-upFrom}
 use Rattle.algebra.specs.Signs.{equal-of-zero}
 use Rattle.algebra.specs.Tests.{no-path, and-b, or-cases}
 use Rattle.algebra.specs.Words.{those, every, upFrom, if_then_else_}
 use Rattle.definitions.specs.Lookup.{below, run, higher, highest, upperLabel, answerAt, answerTo}
-use Rattle.definitions.specs.Meaning.{spotOf, CountsBelow, NoneHigher, Live, Through, Answers, upon, under, outside, AnswersTo, offGrid, within}
+use Rattle.definitions.specs.Meaning.{spotOf, CountsBelow, NoneHigher, Live, Through, UpperLabel, Answers, upon, under, outside, AnswersTo, offGrid, within}
 use Rattle.definitions.specs.Shape.{Line, gridPoint, conflict, on}
-use Rattle.definitions.specs.Tables.{isLive, slotsOf, lineAt, liveSlots, liveLines, onGrid, noneConflict}
+use Rattle.definitions.specs.Tables.{x1, x2, isLive, slotsOf, lineAt, liveSlots, liveLines, onGrid, noneConflict}
 use Rattle.meaning.specs.Compare.{order}
 use Rattle.meaning.specs.Crossing.{spot-on, on→, on←}
 use Rattle.meaning.specs.Height.{counts-below, over-is, below→, none-higher→, none-higher←}
@@ -33,6 +33,15 @@ live→ lines s m =
 pub live← : (lines : List ℕ) (s : ℕ) → Live lines s → List·Memᴰ s (liveSlots lines)
 unfolding liveSlots slotsOf isLive
 live← lines s v = in-those (isLive lines) (upFrom 0 (length lines / 8)) (to-upFrom 0 (length lines / 8) s (omega arith) (omega (arith, v .there))) (eq-eqb _ _ (v .lives))
+
+-- the label of the upper side
+pub upper-means : (lines : List ℕ) (s n : ℕ) → (n ≡ upperLabel lines s) ↔ UpperLabel lines s n
+unfolding upperLabel
+upper-means lines s n = (λ e. record { left = λ h. rw (lt-ltb (x1 lines s) (x2 lines s) h) at e; right = λ h. rw (le-ltb (x1 lines s) (x2 lines s) h) at e }, λ u. go u (order (x2 lines s) (x1 lines s)))
+  where
+    go : UpperLabel lines s n → (x2 lines s ≤ x1 lines s) ⊎ (x1 lines s < x2 lines s) → n ≡ upperLabel lines s
+    go u (inl h) = rw (le-ltb (x1 lines s) (x2 lines s) h) (u .right h)
+    go u (inr h) = rw (lt-ltb (x1 lines s) (x2 lines s) h) (u .left h)
 
 -- through p
 pub through-is : (p : Point) (l : Line) → (on p l ≡ true) ↔ Through p l
@@ -223,11 +232,11 @@ module _ (lines : List ℕ) (p : Point) where
 
   -- the best line is the paper's
   pub best-answers : {n : ℕ} (s : ℕ) → ((u : ℕ) → Live lines u → Through p (lineAt lines u) → ⊥) → Best s → n ≡ upperLabel lines s → Answers lines p n
-  best-answers s none b e =
+  best-answers {n} s none b e =
       under none s (b .lives) (c s (b .under))
       (λ u v d. none-higher← (p .x .0) (lineAt lines s) (lineAt lines u) (c s (b .under) .spot) (d .spot) (o (c s (b .under))) (o d) (c s (b .under) .there) (d .there)
       (b .tops u v (counts-below p (lineAt lines u) .1 d)))
-      e
+      (upper-means lines s n .0 e)
     where
       c : (s : ℕ) → below p (lineAt lines s) ≡ true → CountsBelow p (lineAt lines s)
       c s h = counts-below p (lineAt lines s) .0 h
@@ -309,7 +318,7 @@ module _ (lines : List ℕ) (p : Point) (sound : noneConflict lines ≡ true) wh
   answer-one n k (upon s v t low e) (under f u w c g e′) = absurd (f s v t)
   answer-one n k (upon s v t low e) (outside f g e′) = absurd (f s v t)
   answer-one n k (under f u w c g e′) (upon s v t low e) = absurd (f s v t)
-  answer-one n k (under f s v b g e) (under f′ u w c g′ e′) = e ∙ ap (upperLabel lines) (best-one s u (to-best s v b g) (to-best u w c g′)) ∙ sym e′
+  answer-one n k (under f s v b g e) (under f′ u w c g′ e′) = upper-means lines s n .1 e ∙ ap (upperLabel lines) (best-one s u (to-best s v b g) (to-best u w c g′)) ∙ sym (upper-means lines u k .1 e′)
   answer-one n k (under f s v b g e) (outside f′ g′ e′) = absurd (g′ s v b)
   answer-one n k (outside f g e′) (upon s v t low e) = absurd (f s v t)
   answer-one n k (outside f′ g′ e′) (under f s v b g e) = absurd (g′ s v b)

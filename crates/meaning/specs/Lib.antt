@@ -29,4 +29,6 @@ pub mod Walk
 pub mod Locate
 pub mod Plain
 pub mod Chain
+pub mod Stored
 pub mod SoundMeans
+pub mod OneLeaf

@@ -13,11 +13,10 @@ use Rattle.definitions.specs.declared.Point.{Point}
 use Rattle.algebra.specs.Tests.{and-l, and-r}
 use Rattle.algebra.specs.Words.{padded}
 use Rattle.definitions.specs.Lookup.{Showing, Leaf, leafAt, leafOver, showOf}
-use Rattle.definitions.specs.Meaning.{In, LeafAt, here, inNW, inNE, inSW, inSE}
+use Rattle.definitions.specs.Meaning.{In, LeafAt, here, inNW, inNE, inSW, inSE, ListedFrom, atOnce, fromNW, fromNE, fromSW, fromSE}
 use Rattle.definitions.specs.Shape.{Line, Block, gridPoint, wholeMap, nwOf, neOf, swOf, seOf}
 use Rattle.definitions.specs.Tables.{Tables, lengthsFit, liveLines, onGrid, listingTable}
 use Rattle.definitions.specs.Tree.{Rule, Tree, leaf, divided, listed, block, treeBy, tree, listingsOf}
-use Rattle.meaning.specs.Fair.{Fair}
 use Rattle.meaning.specs.Blocks.{double, half-power, nw-is, ne-is, sw-is, se-is}
 use Rattle.meaning.specs.Rules.{by-leaf, by-divided}
 use Rattle.meaning.specs.Sound.{Sound, sound←}
@@ -144,24 +143,66 @@ finds-tree p rule ls (suc n) w s =
         (subst (λ (k : Block). Finds p k (treeBy rule ls n w s)) (sym (sw-is n w s)) c)
         (subst (λ (k : Block). Finds p k (treeBy rule ls n (w + 2 ^ suc n) s)) (sym (se-is n w s)) d))
 
--- Show leaf on a sound map: the block is that of the leaf that holds the point, and the part is its list
+-- where the search over a tree comes to, if the tree's listings start at first
+abbrev Starts : Block → Tree → ℕ → Leaf → Type 0
+Starts k t first f = (n : ℕ) × (f .first ≡ first + n) × ListedFrom k t (f .place) n
+
+listed-from : (p : Point) (t : Tree) (k : Block) (first : ℕ) → Starts k t first (leafAt p t k first)
+unfolding leafAt
+listed-from p (leaf slots) k first = (0, omega arith, atOnce refl refl)
+listed-from p (divided a b c d) k first =
+    go (ltb (p .x .0) (k .west + k .side / 2)) (ltb (p .y .0) (k .south + k .side / 2))
+    (listed-from p a (nwOf k) first) (listed-from p b (neOf k) (first + la)) (listed-from p c (swOf k) (first + la + lb)) (listed-from p d (seOf k) (first + la + lb + lc))
+  where
+    la : ℕ
+    la = length (listingsOf a)
+
+    lb : ℕ
+    lb = length (listingsOf b)
+
+    lc : ℕ
+    lc = length (listingsOf c)
+
+    pick : Bool → Bool → Leaf
+    pick t u =
+        elim t [
+          | true ↦ elim u [ true ↦ leafAt p c (swOf k) (first + la + lb) | false ↦ leafAt p a (nwOf k) first ]
+          | false ↦ elim u [ true ↦ leafAt p d (seOf k) (first + la + lb + lc) | false ↦ leafAt p b (neOf k) (first + la) ]
+        ]
+
+    go : (t u : Bool) → Starts (nwOf k) a first (leafAt p a (nwOf k) first) → Starts (neOf k) b (first + la) (leafAt p b (neOf k) (first + la))
+        → Starts (swOf k) c (first + la + lb) (leafAt p c (swOf k) (first + la + lb)) → Starts (seOf k) d (first + la + lb + lc) (leafAt p d (seOf k) (first + la + lb + lc))
+        → Starts k (divided a b c d) first (pick t u)
+    go true true nw ne sw se = (la + lb + sw .0, omega (arith, sw .1), fromSW (sw .2) refl)
+    go true false nw ne sw se = (nw .0, nw .1, fromNW (nw .2))
+    go false true nw ne sw se = (la + lb + lc + se .0, omega (arith, se .1), fromSE (se .2) refl)
+    go false false nw ne sw se = (la + ne .0, omega (arith, ne .1), fromNE (ne .2) refl)
+
+-- Show leaf on a sound map: the block is that of the leaf that holds the point, and the part is its list, where it stands in the listing table
 pub record ShowsLeaf (rule : Rule) (t : Tables) (x y : ℕ) (place : Block) (r : Showing) : Type 0 where
   pub tells : r .told ≡ record { answer = Done 0; side = place .side; west = record { 0 = place .west }; south = record { 0 = place .south } }
   pub holds : In place (gridPoint x y)
   pub isLeaf : LeafAt wholeMap (tree rule (liveLines (t .lines))) place (r .part)
+  pub from : ListedFrom wholeMap (tree rule (liveLines (t .lines))) place (r .first)
 
-pub show-leaf : (rule : Rule) (fair : Fair rule) (t : Tables) (x y : ℕ) → lengthsFit t ≡ true → Sound rule t → onGrid x && onGrid y ≡ true
+pub show-leaf : (rule : Rule) (t : Tables) (x y : ℕ) → lengthsFit t ≡ true → Sound rule t → onGrid x && onGrid y ≡ true
     → ShowsLeaf rule t x y (leafOver rule t x y .place) (showOf rule t x y)
 unfolding showOf leafOver
-show-leaf rule fair t x y fit sd on =
+show-leaf rule t x y fit sd on =
     rw (fit, sound← rule t sd, on)
-    record { tells = refl; holds = found .holds; isLeaf = subst (λ (l : List ℕ). LeafAt wholeMap T (place) l) (sym (found .part)) (found .isLeaf) }
+    record { tells = refl; holds = found .holds; isLeaf = subst (λ (l : List ℕ). LeafAt wholeMap T (place) l) (sym (found .part)) (found .isLeaf); from = subst (ListedFrom wholeMap T place) from-0 (starts .2) }
   where
     T : Tree
     T = tree rule (liveLines (t .lines))
 
     place : Block
     place = leafAt (gridPoint x y) (tree rule (liveLines (t .lines))) wholeMap 0 .place
+
+    starts : Starts wholeMap T 0 (leafAt (gridPoint x y) T wholeMap 0)
+    starts = listed-from (gridPoint x y) T wholeMap 0
+
+    from-0 : starts .0 ≡ leafAt (gridPoint x y) T wholeMap 0 .first
+    from-0 = omega (arith, starts .1)
 
     found : Found (gridPoint x y) wholeMap (tree rule (liveLines (t .lines))) (leafAt (gridPoint x y) (tree rule (liveLines (t .lines))) wholeMap 0) (t .listings)
     found =

@@ -11,15 +11,16 @@ use borrow.Author.Tests.{leb-true, le-leb, eqb-true, eq-eqb, ne-eqb}
 use Rattle.algebra.specs.Lists.{every→, every←, in-upFrom, to-upFrom}
 use Rattle.algebra.specs.Tests.{or-cases, or-l, or-r, and-l, and-r, and-b}
 use Rattle.algebra.specs.Words.{every}
-use Rattle.definitions.specs.Meaning.{Live, LiveSlot, EmptySlot, SoundMap, Conflicts}
+use Rattle.definitions.specs.Meaning.{Live, LiveSlot, EmptySlot, SoundMap, Tabled, Conflicts}
 use Rattle.definitions.specs.Shape.{conflict}
-use Rattle.definitions.specs.Tables.{Tables, entry, live, generation, x1, y1, x2, y2, leftLabel, rightLabel, isLive, slotsOf, liveSlots, lineAt, onGrid, liveSound, emptySound, slotSound, noneConflict, sound}
-use Rattle.definitions.specs.Tree.{Rule}
+use Rattle.definitions.specs.Tables.{Tables, entry, live, generation, x1, y1, x2, y2, leftLabel, rightLabel, isLive, slotsOf, liveSlots, lineAt, liveLines, onGrid, liveSound, emptySound, slotSound, noneConflict, nodeTable, listingTable, sound}
+use Rattle.definitions.specs.Tree.{Rule, tree}
 use Rattle.meaning.specs.Answering.{live→, live←}
 use Rattle.meaning.specs.Chain.{Each, chain→, chain←, eqb-means, both-means, not-means}
 use Rattle.meaning.specs.Crossing.{Proper, conflict-iff}
 use Rattle.meaning.specs.Slots.{same-or-not}
 use Rattle.meaning.specs.Sound.{Sound, sound→, sound←, live-proper}
+use Rattle.meaning.specs.Stored.{tabled-iff}
 
 -- ---- One slot
 module _ (lines : List ℕ) (s : ℕ) where
@@ -130,10 +131,14 @@ module _ (lines : List ℕ) where
             (not-means (conflict (lineAt lines s) (lineAt lines u)) (conflict-means s u v w) .1 (f s u v w d))
 
 pub sound-means : (rule : Rule) (t : Tables) → (sound rule t ≡ true) ↔ SoundMap rule t
+unfolding nodeTable listingTable
 sound-means rule t = (λ e. there (sound→ rule t e), λ m. sound← rule t (back m (slots-mean (t .lines) .1 (m .slots))))
   where
+    tables-mean : ((t .nodes ≡ nodeTable rule (length (t .nodes)) (t .lines)) × (t .listings ≡ listingTable rule (length (t .listings)) (t .lines))) ↔ Tabled (tree rule (liveLines (t .lines))) (t .nodes) (t .listings)
+    tables-mean = tabled-iff (tree rule (liveLines (t .lines))) (t .nodes) (t .listings)
+
     there : Sound rule t → SoundMap rule t
-    there s = record { slots = slots-mean (t .lines) .0 (s .slots); apart = apart-mean (t .lines) (s .slots) .0 (s .apart); nodes = s .nodes; listings = s .listings }
+    there s = record { slots = slots-mean (t .lines) .0 (s .slots); apart = apart-mean (t .lines) (s .slots) .0 (s .apart); tables = tables-mean .0 (s .nodes, s .listings) }
 
     back : SoundMap rule t → every (slotSound (t .lines)) (slotsOf (t .lines)) ≡ true → Sound rule t
-    back m a = record { slots = a; apart = apart-mean (t .lines) a .1 (m .apart); nodes = m .nodes; listings = m .listings }
+    back m a = let e = tables-mean .1 (m .tables) in record { slots = a; apart = apart-mean (t .lines) a .1 (m .apart); nodes = e .0; listings = e .1 }
