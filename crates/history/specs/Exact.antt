@@ -1,5 +1,5 @@
 -- The calls answer by the refusal table, and a refusal leaves all as it was.
-use mathlib.Core.Path.{_≡_, refl, _∙_, ap, subst}
+use mathlib.Core.Path.{_≡_, refl, sym, _∙_, ap, subst}
 use mathlib.Core.Logic.{_⊎_, inl, inr, _↔_}
 use mathlib.Core.Bool.{true, not, _&&_}
 use mathlib.Core.List.{List, [], _∷_}
@@ -7,22 +7,26 @@ use Prim.Native.Nat.{ℕ, _+_, _*_, _/_, _≤_, _<_}
 use native.Mathlib.Omega.{arith}
 use lib.Dec.{eqb}
 use lib.ListN.{length}
-use Rattle.algebra.specs.Tests.{false-by}
+use borrow.Author.Tests.{eqb-true, not-false}
+use Rattle.algebra.specs.Tests.{false-by, and-r}
 use Rattle.definitions.specs.declared.Answer.{Answer}
 use Rattle.definitions.specs.declared.Answer.the-variants.{Done, Lengths, Damaged, OffGrid, NoLength, Conflict, NoSlot, NoRoom, UnknownHandle}
 use Rattle.definitions.specs.declared.Given.{Given}
 use Rattle.definitions.specs.Calls.{Reply, reply, cleared, startOf, givenLine, allOnGrid, noLength, conflicting, freeSlots, placed, known, freed, rebuilt, roomFor, insertOf, deleteOf}
 use Rattle.definitions.specs.Lookup.{Located, Showing, answersTo, notShown, shownAt, leafOver, locateOf, showOf}
 use Rattle.definitions.specs.Meaning.{Live}
-use Rattle.definitions.specs.Shape.{conflict}
+use Rattle.definitions.specs.Shape.{Block, conflict}
 use Rattle.definitions.specs.Tables.{Tables, lengthsFit, generation, isLive, slotsOf, lineAt, liveLines, onGrid, sound}
 use Rattle.definitions.specs.Tree.{Rule}
 use Rattle.meaning.specs.Chain.{stable}
 use Rattle.meaning.specs.Crossing.{Proper}
+use Rattle.meaning.specs.Fair.{Fair}
+use Rattle.meaning.specs.Show.{ShowsLeaf, show-leaf}
 use Rattle.meaning.specs.Sound.{sound→, grid-proper}
 use Rattle.meaning.specs.SoundMeans.{sound-means, live-is-proper}
 use Rattle.history.specs.Cascade.{tested, gives, by-first, Came, kept, made, plain, detailed, done-0, alone}
-use Rattle.history.specs.Refusals.{None, Some, Retired, Lowest, WrongLengths, Unsound, EndsEqual, InTheWay, AllTaken, Vacant, NeedsMore, TooLarge, Handle, Nothing, StartExact, InsertExact, DeleteExact, LocateExact, ShowExact, insertTests, deleteTests, locateTests, showTests}
+use Rattle.history.specs.Refusals.{None, Some, Retired, Lowest, WrongLengths, Unsound, EndsEqual, InTheWay, AllTaken, Vacant, NeedsMore, TooLarge, Handle, Nothing, All0, PutIn, TakenOut, AnswersAll, StartExact, InsertExact, DeleteExact, LocateExact, ShowExact, insertTests, deleteTests, locateTests, showTests}
+use Rattle.history.specs.Left.{cleared-all0, put-in, taken-out, answers-all}
 use Rattle.history.specs.Conditions.{lengths-mean, wrong-means, unsound-means, above-means, place-means, ends-mean, lowest-first, none-passes, lowest-only, way-means, vacant-means, taken-means, not-taken, room-means, unknown-means, lists-mean}
 
 -- ---- The calls
@@ -38,8 +42,17 @@ module _ (t : Tables) where
       (λ f. gives (reply (Done 0) (cleared t)) (tt, (λ w. w f, tt)) (refl, refl))
       (λ w. gives (reply Lengths t) (w, tt) refl)
 
+  pub start-made : (d : ℕ) → startOf t .answer ≡ Done d → startOf t .after ≡ cleared t
+  start-made = made came-start
+
   pub start-exact : StartExact t
-  start-exact = record { lengths = alone (plain came-start Lengths (λ d. refl)); done = done-0 came-start (λ d e. e) tt; all0 = made came-start; kept = kept came-start }
+  start-exact =
+      record {
+        lengths = alone (plain came-start Lengths (λ d. refl));
+        done = done-0 came-start (λ d e. e) tt;
+        all0 = λ d e. subst (All0 t) (sym (start-made d e)) (cleared-all0 t);
+        kept = kept came-start;
+      }
 
 module _ (rule : Rule) (t : Tables) (h : ℕ) where
   abbrev Deleted : Reply → Type 0
@@ -53,6 +66,13 @@ module _ (rule : Rule) (t : Tables) (h : ℕ) where
       (λ n2. tested Deleted (not (known (t .lines) h)) (unknown-means (t .lines) h) (λ c. gives (reply UnknownHandle t) (c, (n1, (n2, tt))) refl)
       (λ n3. gives (reply (Done 0) (rebuilt rule t (freed (t .lines) (h / 65536)))) (tt, (n1, (n2, (n3, tt)))) (refl, refl))))
 
+  emptied : Fair rule → (d : ℕ) → deleteOf rule t h .answer ≡ Done d → TakenOut rule t (h / 65536) (deleteOf rule t h .after)
+  emptied fair d e =
+      let n = done-0 came-delete (λ d e. e) tt d .0 e .1 in
+      subst (TakenOut rule t (h / 65536)) (sym (made came-delete d e))
+      (taken-out rule fair t h (sound→ rule t (sound-means rule t .1 (stable (sound rule t) (sound-means rule t) (n .1 .0))))
+      (not-false (known (t .lines) h) (false-by _ (λ q. n .1 .1 .0 (unknown-means (t .lines) h .0 q)))))
+
   pub delete-exact : DeleteExact rule t h
   delete-exact =
       record {
@@ -60,7 +80,7 @@ module _ (rule : Rule) (t : Tables) (h : ℕ) where
         damaged = plain came-delete Damaged (λ d. refl);
         unknown = plain came-delete UnknownHandle (λ d. refl);
         done = done-0 came-delete (λ d e. e) tt;
-        emptied = made came-delete;
+        emptied = emptied;
         kept = kept came-delete;
       }
 
@@ -78,13 +98,20 @@ module _ (rule : Rule) (t : Tables) (points answers : List ℕ) where
       (λ n1. tested Answered (not (sound rule t)) (unsound-means rule t) (λ c. gives (located Damaged answers) (c, (n1, tt)) refl)
       (λ n2. gives (located (Done 0) (answersTo (t .lines) points)) (tt, (n1, (n2, tt))) (refl, refl)))
 
+  answered : (d : ℕ) → locateOf rule t points answers .answer ≡ Done d → AnswersAll (t .lines) points answers (locateOf rule t points answers .answers)
+  answered d e =
+      let n = done-0 came-locate (λ d e. e) tt d .0 e .1 in
+      let w = not-false (lengthsFit t && eqb (length points) (2 * length answers)) (false-by _ (λ q. n .0 (lists-mean t points answers .0 q))) in
+      subst (AnswersAll (t .lines) points answers) (sym (made came-locate d e))
+      (answers-all rule t points answers (sound-means rule t .1 (stable (sound rule t) (sound-means rule t) (n .1 .0))) (eqb-true _ _ (and-r (lengthsFit t) (eqb (length points) (2 * length answers)) w)))
+
   pub locate-exact : LocateExact rule t points answers
   locate-exact =
       record {
         lengths = alone (plain came-locate Lengths (λ d. refl));
         damaged = plain came-locate Damaged (λ d. refl);
         done = done-0 came-locate (λ d e. e) tt;
-        answered = made came-locate;
+        answered = answered;
         kept = kept came-locate;
       }
 
@@ -103,6 +130,16 @@ module _ (rule : Rule) (t : Tables) (x y : ℕ) where
       (λ n2. tested Showed (not (onGrid x && onGrid y)) (place-means x y) (λ c. gives (notShown OffGrid) (c, (n1, (n2, tt))) (nothing OffGrid))
       (λ n3. gives (shownAt (leafOver rule t x y) (t .listings)) (tt, (n1, (n2, (n3, tt)))) (refl, refl))))
 
+  leaf-shown : (d : ℕ) → showOf rule t x y .told .answer ≡ Done d → (place : Block) × ShowsLeaf rule t x y place (showOf rule t x y)
+  leaf-shown d e =
+      let n = done-0 came-show (λ d e. e) tt d .0 e .1 in (
+        leafOver rule t x y .place,
+        show-leaf rule t x y
+            (not-false (lengthsFit t) (false-by _ (λ q. n .0 (wrong-means t .0 q))))
+            (sound→ rule t (sound-means rule t .1 (stable (sound rule t) (sound-means rule t) (n .1 .0))))
+            (not-false (onGrid x && onGrid y) (false-by _ (λ q. n .1 .1 .0 (place-means x y .0 q)))),
+      )
+
   pub show-exact : ShowExact rule t x y
   show-exact =
       record {
@@ -110,7 +147,7 @@ module _ (rule : Rule) (t : Tables) (x y : ℕ) where
         damaged = plain came-show Damaged (λ d. refl);
         offGrid = plain came-show OffGrid (λ d. refl);
         done = done-0 came-show (λ d e. e) tt;
-        leaf = made came-show;
+        leaf = leaf-shown;
         nothing = kept came-show;
       }
 
@@ -164,8 +201,12 @@ module _ (rule : Rule) (t : Tables) (g : Given) where
       (λ n. gives (reply (Done (s * 65536 + (generation (t .lines) s + 1))) (rebuilt rule t (placed (t .lines) s g))) (tt, (n1, (n2, (n3, (n4, (n5, (n6, (roomy s low n, tt)))))))) ((s, low, refl), (s, (low, refl)))))
       (λ f. gives (reply NoSlot t) (no-free f, (n1, (n2, (n3, (n4, (n5, tt)))))) refl))))))
 
-  put : (h s : ℕ) → insertOf rule t g .answer ≡ Done h → Lowest (Vacant (t .lines)) s → insertOf rule t g .after ≡ rebuilt rule t (placed (t .lines) s g)
-  put h s e low = let m = made came-insert h e in m .1 .1 ∙ ap (λ (u : ℕ). rebuilt rule t (placed (t .lines) u g)) (lowest-only _ _ (m .1 .0) low)
+  put : (h s : ℕ) → insertOf rule t g .answer ≡ Done h → Lowest (Vacant (t .lines)) s → PutIn rule t g s (insertOf rule t g .after)
+  put h s e low =
+      let m = made came-insert h e in
+      let n = detailed came-insert Done 0 (Handle rule t g) (λ d. refl) (λ d. refl) (λ d a. a .0) handle-only (λ d a. tt) h .0 e .1 in
+      subst (PutIn rule t g s) (sym (m .1 .1 ∙ ap (λ (u : ℕ). rebuilt rule t (placed (t .lines) u g)) (lowest-only _ _ (m .1 .0) low)))
+      (put-in rule t g s (omega (arith, low .holds .there)) (λ q. n .1 .1 .1 .1 .1 .1 .0 (record { slot = s; takes = low; more = q })))
 
   pub insert-exact : InsertExact rule t g
   insert-exact =

@@ -12,6 +12,8 @@ pub mod Holds
 pub mod Refusals
 pub mod Cascade
 pub mod Conditions
+pub mod Left
 pub mod Exact
 pub mod Unique
 pub mod Room
+pub mod Promised

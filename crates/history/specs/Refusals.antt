@@ -3,16 +3,18 @@ use mathlib.Core.Path.{_≡_}
 use mathlib.Core.Logic.{_⊎_, _↔_}
 use mathlib.Core.List.{List, [], _∷_}
 use Prim.Native.Nat.{ℕ, zero, suc, _+_, _*_, _/_, _%_, _≤_, _<_}
-use lib.ListN.{length}
+use lib.ListN.{length, getD}
 use Rattle.definitions.specs.declared.Answer.{Answer}
 use Rattle.definitions.specs.declared.Answer.the-variants.{Done, Lengths, Damaged, OffGrid, NoLength, Conflict, NoSlot, NoRoom, UnknownHandle}
 use Rattle.definitions.specs.declared.Given.{Given}
-use Rattle.definitions.specs.Shape.{Line}
+use Rattle.definitions.specs.Shape.{Line, Block}
 use Rattle.definitions.specs.Tree.{Rule, tree, nodesOf, listingsOf}
-use Rattle.definitions.specs.Tables.{Tables, live, generation, lineAt, liveLines}
-use Rattle.definitions.specs.Calls.{refusalOf, cleared, startOf, insertOf, deleteOf, givenLine, placed, freed, rebuilt}
-use Rattle.definitions.specs.Lookup.{Showing, answersTo, shownAt, leafOver, locateOf, showOf}
-use Rattle.definitions.specs.Meaning.{Live, Conflicts, SoundMap}
+use Rattle.definitions.specs.Tables.{Tables, entry, live, generation, x1, y1, x2, y2, leftLabel, rightLabel, lineAt, liveLines}
+use Rattle.definitions.specs.Calls.{refusalOf, startOf, insertOf, deleteOf, givenLine, placed}
+use Rattle.definitions.specs.Lookup.{Showing, locateOf, showOf}
+use Rattle.meaning.specs.Fair.{Fair}
+use Rattle.meaning.specs.Show.{ShowsLeaf}
+use Rattle.definitions.specs.Meaning.{Live, EmptySlot, Conflicts, Zeros, Tabled, SoundMap, AnswersTo}
 
 -- none of the first n tests applies
 abbrev pub None : ℕ → List (Type 0) → Type 0
@@ -94,6 +96,47 @@ pub data Unknown (lines : List ℕ) (h : ℕ) : Type 0 where
   notLive : ¬ (live lines (h / 65536) ≡ 1) → Unknown lines h
   otherGeneration : ¬ (generation lines (h / 65536) ≡ h % 65536) → Unknown lines h
 
+-- ---- What an accepted call leaves
+
+-- the tables are as long as before
+pub record AsLong (t after : Tables) : Type 0 where
+  pub lines : length (after .lines) ≡ length (t .lines)
+  pub nodes : length (after .nodes) ≡ length (t .nodes)
+  pub listings : length (after .listings) ≡ length (t .listings)
+
+-- start: every entry is 0
+pub record All0 (t after : Tables) : Type 0 where
+  pub long : AsLong t after
+  pub lines : Zeros (after .lines)
+  pub nodes : Zeros (after .nodes)
+  pub listings : Zeros (after .listings)
+
+-- every slot but s is as it was, and the tree tables are those of the live lines
+pub record OnlySlot (rule : Rule) (t : Tables) (s : ℕ) (after : Tables) : Type 0 where
+  pub long : AsLong t after
+  pub others : (u k : ℕ) → ¬ (u ≡ s) → k < 8 → entry (after .lines) u k ≡ entry (t .lines) u k
+  pub tables : Tabled (tree rule (liveLines (after .lines))) (after .nodes) (after .listings)
+
+-- insert: the line stands in slot s, live, the generation raised by 1
+pub record PutIn (rule : Rule) (t : Tables) (g : Given) (s : ℕ) (after : Tables) : Type 0 where
+  pub lives : live (after .lines) s ≡ 1
+  pub raised : generation (after .lines) s ≡ generation (t .lines) s + 1
+  pub end1 : (x1 (after .lines) s ≡ g .x1) × (y1 (after .lines) s ≡ g .y1)
+  pub end2 : (x2 (after .lines) s ≡ g .x2) × (y2 (after .lines) s ≡ g .y2)
+  pub labels : (leftLabel (after .lines) s ≡ g .left) × (rightLabel (after .lines) s ≡ g .right)
+  pub rest : OnlySlot rule t s after
+
+-- delete: slot s keeps its generation, and its other seven entries are 0
+pub record TakenOut (rule : Rule) (t : Tables) (s : ℕ) (after : Tables) : Type 0 where
+  pub kept : generation (after .lines) s ≡ generation (t .lines) s
+  pub empty : EmptySlot (after .lines) s
+  pub rest : OnlySlot rule t s after
+
+-- locate: the answer list is as long as before, and its entry i answers to the point list's pair i
+pub record AnswersAll (lines points answers after : List ℕ) : Type 0 where
+  pub long : length after ≡ length answers
+  pub each : (i : ℕ) → i < length answers → AnswersTo lines (getD points (2 * i) 0) (getD points (2 * i + 1) 0) (getD after i 0)
+
 -- ---- The calls
 
 module _ (t : Tables) where
@@ -103,8 +146,7 @@ module _ (t : Tables) where
   pub record StartExact : Type 0 where
     pub lengths : (started ≡ Lengths) ↔ WrongLengths t
     pub done : (d : ℕ) → (started ≡ Done d) ↔ (d ≡ 0) × None 1 (WrongLengths t ∷ [])
-    -- all tables are 0
-    pub all0 : (d : ℕ) → started ≡ Done d → startOf t .after ≡ cleared t
+    pub all0 : (d : ℕ) → started ≡ Done d → All0 t (startOf t .after)
     pub kept : 0 < refusalOf started → startOf t .after ≡ t
 
 module _ (rule : Rule) (t : Tables) (g : Given) where
@@ -127,8 +169,7 @@ module _ (rule : Rule) (t : Tables) (g : Given) where
     pub noSlot : (inserted ≡ NoSlot) ↔ AllTaken (t .lines) × None 5 insertTests
     pub noRoom : (inserted ≡ NoRoom) ↔ TooLarge rule t g × None 6 insertTests
     pub done : (h : ℕ) → (inserted ≡ Done h) ↔ Handle h × None 7 insertTests
-    -- the line stands in its slot, and the tree tables are those of the live lines
-    pub put : (h s : ℕ) → inserted ≡ Done h → Lowest (Vacant (t .lines)) s → insertOf rule t g .after ≡ rebuilt rule t (placed (t .lines) s g)
+    pub put : (h s : ℕ) → inserted ≡ Done h → Lowest (Vacant (t .lines)) s → PutIn rule t g s (insertOf rule t g .after)
     pub kept : 0 < refusalOf inserted → insertOf rule t g .after ≡ t
 
 module _ (rule : Rule) (t : Tables) (h : ℕ) where
@@ -143,8 +184,8 @@ module _ (rule : Rule) (t : Tables) (h : ℕ) where
     pub damaged : (deleted ≡ Damaged) ↔ Unsound rule t × None 1 deleteTests
     pub unknown : (deleted ≡ UnknownHandle) ↔ Unknown (t .lines) h × None 2 deleteTests
     pub done : (d : ℕ) → (deleted ≡ Done d) ↔ (d ≡ 0) × None 3 deleteTests
-    -- the slot is emptied, and the tree tables are those of the live lines
-    pub emptied : (d : ℕ) → deleted ≡ Done d → deleteOf rule t h .after ≡ rebuilt rule t (freed (t .lines) (h / 65536))
+    -- over a fair rule, so that the smaller tree has room
+    pub emptied : Fair rule → (d : ℕ) → deleted ≡ Done d → TakenOut rule t (h / 65536) (deleteOf rule t h .after)
     pub kept : 0 < refusalOf deleted → deleteOf rule t h .after ≡ t
 
 module _ (rule : Rule) (t : Tables) (points answers : List ℕ) where
@@ -158,7 +199,7 @@ module _ (rule : Rule) (t : Tables) (points answers : List ℕ) where
     pub lengths : (located ≡ Lengths) ↔ WrongLists t points answers
     pub damaged : (located ≡ Damaged) ↔ Unsound rule t × None 1 locateTests
     pub done : (d : ℕ) → (located ≡ Done d) ↔ (d ≡ 0) × None 2 locateTests
-    pub answered : (d : ℕ) → located ≡ Done d → locateOf rule t points answers .answers ≡ answersTo (t .lines) points
+    pub answered : (d : ℕ) → located ≡ Done d → AnswersAll (t .lines) points answers (locateOf rule t points answers .answers)
     pub kept : 0 < refusalOf located → locateOf rule t points answers .answers ≡ answers
 
 -- the side and corner are 0, and the part has length 0
@@ -180,5 +221,6 @@ module _ (rule : Rule) (t : Tables) (x y : ℕ) where
     pub damaged : (shown ≡ Damaged) ↔ Unsound rule t × None 1 showTests
     pub offGrid : (shown ≡ OffGrid) ↔ ((16383 < x) ⊎ (16383 < y)) × None 2 showTests
     pub done : (d : ℕ) → (shown ≡ Done d) ↔ (d ≡ 0) × None 3 showTests
-    pub leaf : (d : ℕ) → shown ≡ Done d → showOf rule t x y ≡ shownAt (leafOver rule t x y) (t .listings)
+    -- the leaf that holds the point, and its part of the listing table
+    pub leaf : (d : ℕ) → shown ≡ Done d → (place : Block) × ShowsLeaf rule t x y place (showOf rule t x y)
     pub nothing : 0 < refusalOf shown → Nothing (showOf rule t x y)

@@ -13,7 +13,7 @@ use Rattle.definitions.specs.Meaning.{SoundMap}
 use Rattle.definitions.specs.Tables.{Tables, lengthsFit, sound}
 use Rattle.definitions.specs.Tree.{Rule}
 use Rattle.meaning.specs.Fair.{Fair}
-use Rattle.history.specs.Exact.{start-exact, insert-exact, delete-exact, locate-exact, show-exact}
+use Rattle.history.specs.Exact.{start-made, start-exact, insert-exact, delete-exact, locate-exact, show-exact}
 use Rattle.meaning.specs.Chain.{stable}
 use Rattle.meaning.specs.Sound.{Sound, sound→, sound←}
 use Rattle.meaning.specs.SoundMeans.{sound-means}
@@ -126,7 +126,7 @@ module _ (rule : Rule) (fair : Fair rule) (t : Tables) where
       let e : startOf t .answer ≡ Done d = sym (parts p .0) in
       let n = start-exact t .done d .0 e .1 in
       let fit = stable (lengthsFit t) (lengths-mean t) (n .0) in
-      is-sound (startOf t) (subst (Sound rule) (sym (start-exact t .all0 d e)) (start-sound rule fair t (fit .nodes .0))) p
+      is-sound (startOf t) (subst (Sound rule) (sym (start-made t d e)) (start-sound rule fair t (fit .nodes .0))) p
 
 -- ---- The one number that the host gets tells the whole answer
 pub number-tells : (a b : Answer) → detailOf a < 4294967296 → detailOf b < 4294967296 → numberOf a ≡ numberOf b → a ≡ b
