@@ -59,6 +59,9 @@ module _ {lines nodes listings : List ℕ} (w : Passed lines nodes listings) whe
           omega (arith, u .within, s),
         )
 
+pub placed-at : (b o : ℕ) {m n : ℕ} → m ≡ n → _≡_ {A = ℕ × ℕ} (b, m * 2 + o) (b, n * 2 + o)
+placed-at b o e = λ i. (b, e i * 2 + o)
+
 module _ (t : Tables) (x y : ℕ) {r : Asked} (a : AskedIs t x y r) where
   pub refused-told : {q : Answer} → r ≡ Refused q → notShown q .told ≡ showOf baseRule t x y .told
   refused-told {q} e = sym (ap (λ (s : Showing). s .told) (subst (λ (z : Asked). AskedIs t x y z) e a))
@@ -66,12 +69,18 @@ module _ (t : Tables) (x y : ℕ) {r : Asked} (a : AskedIs t x y r) where
   pub refused-part : {q : Answer} → r ≡ Refused q → [] ≡ showOf baseRule t x y .part
   refused-part {q} e = sym (ap (λ (s : Showing). s .part) (subst (λ (z : Asked). AskedIs t x y z) e a))
 
+  pub refused-first : {q : Answer} → r ≡ Refused q → 0 ≡ showOf baseRule t x y .first
+  refused-first {q} e = sym (ap (λ (s : Showing). s .first) (subst (λ (z : Asked). AskedIs t x y z) e a))
+
   module _ {f : Leaf} (e : r ≡ Shows f) where
     shown : AskedIs t x y (Shows f)
     shown = subst (λ (z : Asked). AskedIs t x y z) e a
 
     pub shows-told : shownAt (leafOf f) (t .listings) .told ≡ showOf baseRule t x y .told
     shows-told = sym (ap (λ (s : Showing). s .told) (shown .0))
+
+    pub shows-first : f .first ≡ showOf baseRule t x y .first
+    shows-first = sym (ap (λ (s : Showing). s .first) (shown .0))
 
     pub part-fits : f .first + f .count ≤ length (t .listings)
     part-fits = shown .1

@@ -10,7 +10,8 @@ use Rattle.definitions.specs.declared.Given.{Given}
 use Rattle.definitions.specs.Tables.{Tables, lengthsFit, sound, slotSound, slotsOf, isLive}
 use Rattle.definitions.specs.Tree.{baseRule}
 use Rattle.definitions.specs.Calls.{Reply, rebuilt, roomFor, allOnGrid, noLength, conflicting, freeSlots, withSlot}
-use Rattle.definitions.specs.Lookup.{Located, notShown, shownAt, showOf}
+use denote.Ref.{RefT, ptr, now}
+use Rattle.definitions.specs.Lookup.{Located, Showing, notShown, shownAt, showOf}
 use Rattle.tables.specs.declared.Row.{Row}
 use Rattle.tables.specs.declared.Slot.the-variants.{At}
 use Rattle.tables.specs.Rows.{entriesOf}
@@ -86,3 +87,7 @@ pub record Taking (lines nodes listings : List ℕ) (slot : ℕ) : Type 0 where
 abbrev pub AskedIs : Tables → ℕ → ℕ → Asked → Type 0
 AskedIs t x y (Refused a) = showOf baseRule t x y ≡ notShown a
 AskedIs t x y (Shows f) = (showOf baseRule t x y ≡ shownAt (leafOf f) (t .listings)) × (f .first + f .count ≤ length (t .listings))
+
+-- the part is the caller's own: it starts so many entries of 2 bytes after the caller's listing table, and has these entries
+abbrev pub HandsBack : RefT (List ℕ) → RefT (List ℕ) → Showing → Type 0
+HandsBack part listings y = (now part ≡ y .part) × (ptr part ≡ (ptr listings .0, y .first * 2 + ptr listings .1))

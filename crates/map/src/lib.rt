@@ -40,7 +40,7 @@ ghost use Rattle.definitions.specs.Calls.{withSlot, rebuilt, freed, startOf, in
 ghost use Rattle.tables.specs.Rows.{entriesOf};
 ghost use Rattle.definitions.specs.Lookup.{locateOf, showOf};
 ghost use Rattle.walk.specs.Index.{Standing, Walkable, LeafOver};
-ghost use Rattle.map.specs.Promise.{tables, Replies, Locates, Slotted, Comparing, Passed, Room, Putting, Put, Placing, Taking, AskedIs};
+ghost use Rattle.map.specs.Promise.{tables, Replies, Locates, Slotted, Comparing, Passed, Room, Putting, Put, Placing, Taking, AskedIs, HandsBack};
 
 // The tree of the live lines is built anew and compared; then the lines of each leaf are tried against each other.
 fn built_same(
@@ -316,7 +316,7 @@ pub fn show_leaf(lines: &[u16], nodes: &[u16], listings: &[u16], x: u16, y: u16)
 
 // Show leaf: the part of the caller's own listing table.
 pub fn show_part<'a>(lines: &[u16], nodes: &[u16], listings: &'a [u16], x: u16, y: u16) -> &'a [u16]
-    ensures { λ r. ⌜ now r ≡ showOf baseRule (tables (now (lines .entry)) (now (nodes .entry)) (now (listings .entry))) x y .part ⌝ }
+    ensures { λ r. ⌜ HandsBack r (listings .entry) (showOf baseRule (tables (now (lines .entry)) (now (nodes .entry)) (now (listings .entry))) x y) ⌝ }
 {
     let Asked::Shows(leaf) = leaf_asked(lines, nodes, listings, x, y) else {
         return &listings[0..0];

@@ -1,5 +1,5 @@
 use native.Mathlib.Omega.{arith}
-use Rattle.map.proofs.Shows.{refused-part, part-fits, shows-part}
+use Rattle.map.proofs.Shows.{refused-part, refused-first, part-fits, shows-part, shows-first, placed-at}
 use borrow.Author.Needs.{needs}
 use Rattle.map.proofs.show_part.Statement.{statement}
 use Rattle.map.proofs.show_part.Tie as tie
@@ -23,7 +23,7 @@ part-result-end : tie.Need-part-result-end
 part-result-end c = search needs
 
 returns : tie.Need-returns
-returns c = refused-part _ _ _ (c .before .before .before .leaf-asked .ensures) (c .before .enum-told .given .1)
+returns c = let e = c .before .before .before .leaf-asked .ensures in let q = c .before .enum-told .given .1 in (refused-part _ _ _ e q, placed-at _ _ (refused-first _ _ _ e q))
 
 add-end : tie.Need-add-end
 add-end c = record { fits = omega (arith, part-fits _ _ _ (c .before .before .before .before .leaf-asked .ensures) (c .before .before .leaf .given .1)) }
@@ -41,7 +41,7 @@ part-result-end-2 : tie.Need-part-result-end-2
 part-result-end-2 c = omega (arith, part-fits _ _ _ (c .before .before .before .before .leaf-asked .ensures) (c .before .before .leaf .given .1))
 
 returns-2 : tie.Need-returns-2
-returns-2 c = shows-part _ _ _ (c .before .before .before .before .before .leaf-asked .ensures) (c .before .before .before .leaf .given .1)
+returns-2 c = let e = c .before .before .before .before .before .leaf-asked .ensures in let q = c .before .before .before .leaf .given .1 in (shows-part _ _ _ e q, placed-at _ _ (shows-first _ _ _ e q))
 
 pub show-part-spec : {M : Type 1} → statement M
 show-part-spec =
