@@ -120,7 +120,7 @@ module _ (rule : Rule) (t : Tables) (x y : ℕ) where
   Showed = Came (λ (r : Showing). r .told .answer) Nothing (λ (r : Showing). r ≡ shownAt (leafOver rule t x y) (t .listings)) (1 ∷ 2 ∷ 3 ∷ []) (showTests rule t x y) (λ d. d ≡ 0) (λ s. ⊥)
 
   nothing : (r : Answer) → Nothing (notShown r)
-  nothing r = record { side = refl; west = refl; south = refl; part = refl }
+  nothing r = record { side = refl; west = refl; south = refl; first = refl; part = refl }
 
   came-show : Showed (showOf rule t x y)
   unfolding showOf

@@ -14,6 +14,6 @@ pub mod Cascade
 pub mod Conditions
 pub mod Left
 pub mod Exact
-pub mod Unique
+pub mod Accepted
 pub mod Room
 pub mod Promised

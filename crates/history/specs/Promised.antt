@@ -13,12 +13,11 @@ use Rattle.definitions.specs.declared.Answer.{Answer}
 use Rattle.definitions.specs.declared.Answer.the-variants.{Done, Lengths, Damaged, OffGrid, NoLength, Conflict, NoSlot, NoRoom, UnknownHandle}
 use Rattle.definitions.specs.declared.Given.{Given}
 use Rattle.definitions.specs.declared.Point.{Point}
-use Rattle.definitions.specs.declared.Shown.{Shown}
 use Rattle.definitions.specs.Shape.{Line, Block, wholeMap, gridPoint, meets, conflict}
 use Rattle.definitions.specs.Tree.{Rule, Tree, simple, baseRule, tree, listed, nodesOf, listingsOf}
 use Rattle.definitions.specs.Tables.{Tables, lengthsFit, generation, slotsOf, lineAt, liveSlots, liveLines, onGrid, slotSound, noneConflict, sound}
-use Rattle.definitions.specs.Calls.{reply, numberOf, refusalOf, detailOf, cleared, startOf, insertOf, deleteOf, givenLine}
-use Rattle.definitions.specs.Lookup.{answerAt, answerTo, leafAt, locateOf, showOf}
+use Rattle.definitions.specs.Calls.{numberOf, refusalOf, detailOf, cleared, startOf, insertOf, deleteOf, givenLine}
+use Rattle.definitions.specs.Lookup.{answerAt, answerTo, locateOf, showOf}
 use Rattle.definitions.specs.History.{Call, afterAll}
 use Rattle.definitions.specs.Meaning.{Spot, OnLine, InBlock, In, Meets, Conflicts, Criteria, IsTree, LeafAt, ListedFrom, Stored, Tabled, Live, SoundMap, AnswersTo}
 use Rattle.meaning.specs.Apart.{leaf-lists, leaves-exact}
@@ -41,7 +40,7 @@ use Rattle.history.specs.Holds.{demand-3}
 use Rattle.history.specs.Refusals.{None, Some, Lowest, WrongLengths, WrongLists, Unsound, AboveGrid, EndsEqual, InTheWay, AllTaken, Vacant, NeedsMore, TooLarge, Unknown, All0, PutIn, TakenOut, AnswersAll}
 use Rattle.history.specs.Remains.{delete-tree}
 use Rattle.history.specs.Room.{no-room-exact}
-use Rattle.history.specs.Unique.{start-unique, insert-unique, delete-unique, locate-unique, numbers-unique, part-unique, number-tells}
+use Rattle.history.specs.Accepted.{start-accepted, insert-accepted, delete-accepted, number-tells}
 
 -- ---- The one number: refusal × 2^32 + detail
 
@@ -69,9 +68,6 @@ module _ (t : Tables) where
 
   start-kept : 0 < refusalOf (startOf t .answer) → startOf t .after ≡ t
   start-kept = start-exact t .kept
-
-  start-one : {r r′ : Answer} {u u′ : Tables} → reply r u ≡ startOf t → reply r′ u′ ≡ startOf t → (r ≡ r′) × (u ≡ u′)
-  start-one = start-unique t
 
 module _ (rule : Rule) (t : Tables) (g : Given) where
   abbrev insertTests : List (Type 0)
@@ -114,9 +110,6 @@ module _ (rule : Rule) (t : Tables) (g : Given) where
   insert-kept : 0 < refusalOf (insertOf rule t g .answer) → insertOf rule t g .after ≡ t
   insert-kept = insert-exact rule t g .kept
 
-  insert-one : {r r′ : Answer} {u u′ : Tables} → reply r u ≡ insertOf rule t g → reply r′ u′ ≡ insertOf rule t g → (r ≡ r′) × (u ≡ u′)
-  insert-one = insert-unique rule t g
-
 module _ (rule : Rule) (t : Tables) (h : ℕ) where
   abbrev deleteTests : List (Type 0)
   deleteTests = WrongLengths t ∷ Unsound rule t ∷ Unknown (t .lines) h ∷ []
@@ -139,9 +132,6 @@ module _ (rule : Rule) (t : Tables) (h : ℕ) where
   delete-kept : 0 < refusalOf (deleteOf rule t h .answer) → deleteOf rule t h .after ≡ t
   delete-kept = delete-exact rule t h .kept
 
-  delete-one : {r r′ : Answer} {u u′ : Tables} → reply r u ≡ deleteOf rule t h → reply r′ u′ ≡ deleteOf rule t h → (r ≡ r′) × (u ≡ u′)
-  delete-one = delete-unique rule t h
-
 module _ (rule : Rule) (t : Tables) (points answers : List ℕ) where
   abbrev locateTests : List (Type 0)
   locateTests = WrongLists t points answers ∷ Unsound rule t ∷ []
@@ -160,9 +150,6 @@ module _ (rule : Rule) (t : Tables) (points answers : List ℕ) where
 
   locate-kept : 0 < refusalOf (locateOf rule t points answers .answer) → locateOf rule t points answers .answers ≡ answers
   locate-kept = locate-exact rule t points answers .kept
-
-  locate-one : {r r′ : Answer} {us vs : List ℕ} → record { answer = r; answers = us } ≡ locateOf rule t points answers → record { answer = r′; answers = vs } ≡ locateOf rule t points answers → (r ≡ r′) × (us ≡ vs)
-  locate-one = locate-unique rule t points answers
 
 module _ (rule : Rule) (t : Tables) (x y : ℕ) where
   abbrev showTests : List (Type 0)
@@ -187,14 +174,19 @@ module _ (rule : Rule) (t : Tables) (x y : ℕ) where
   show-block d e = let l = show-exact rule t x y .leaf d e in (l .0, l .1 .tells, l .1 .holds, l .1 .isLeaf, l .1 .from)
 
   show-nothing : 0 < refusalOf (showOf rule t x y .told .answer)
-      → (showOf rule t x y .told .side ≡ 0) × (showOf rule t x y .told .west .0 ≡ 0) × (showOf rule t x y .told .south .0 ≡ 0) × (showOf rule t x y .part ≡ [])
-  show-nothing h = let n = show-exact rule t x y .nothing h in (n .side, n .west, n .south, n .part)
+      → (showOf rule t x y .told .side ≡ 0) × (showOf rule t x y .told .west .0 ≡ 0) × (showOf rule t x y .told .south .0 ≡ 0) × (showOf rule t x y .first ≡ 0) × (showOf rule t x y .part ≡ [])
+  show-nothing h = let n = show-exact rule t x y .nothing h in (n .side, n .west, n .south, n .first, n .part)
 
-  show-one : {r r′ : Shown} → r ≡ showOf rule t x y .told → r′ ≡ showOf rule t x y .told → r ≡ r′
-  show-one = numbers-unique rule t x y
+-- what is accepted leaves a sound map
+module _ (rule : Rule) (fair : Fair rule) (t : Tables) where
+  start-sound : {d : ℕ} → startOf t .answer ≡ Done d → SoundMap rule (startOf t .after)
+  start-sound = start-accepted rule fair t
 
-  show-one-part : {us vs : List ℕ} → us ≡ showOf rule t x y .part → vs ≡ showOf rule t x y .part → us ≡ vs
-  show-one-part = part-unique rule t x y
+  insert-sound : (g : Given) {h : ℕ} → insertOf rule t g .answer ≡ Done h → SoundMap rule (insertOf rule t g .after)
+  insert-sound = insert-accepted rule fair t
+
+  delete-sound : (h : ℕ) {d : ℕ} → deleteOf rule t h .answer ≡ Done d → SoundMap rule (deleteOf rule t h .after)
+  delete-sound = delete-accepted rule fair t
 
 -- ---- Demand 2
 
@@ -261,7 +253,8 @@ the-search = plain-answers
 every-point : (rule : Rule) (lines : List Line) (p : Spot) → InBlock p wholeMap → (j : Block) × (list : List ℕ) × LeafAt wholeMap (tree rule lines) j list × InBlock p j
 every-point rule lines p b = let h = in-a-leaf rule lines p b in (h .place, h .list, h .isLeaf, h .holds)
 
-only-one-leaf : (rule : Rule) (ls : List Line) (x y : ℕ) (j : Block) (list : List ℕ) → In j (gridPoint x y) → LeafAt wholeMap (tree rule ls) j list → leafAt (gridPoint x y) (tree rule ls) wholeMap 0 .place ≡ j
+only-one-leaf : (rule : Rule) (ls : List Line) (x y : ℕ) {j k : Block} {list more : List ℕ} → In j (gridPoint x y) → In k (gridPoint x y)
+    → LeafAt wholeMap (tree rule ls) j list → LeafAt wholeMap (tree rule ls) k more → (j ≡ k) × (list ≡ more)
 only-one-leaf = one-leaf
 
 a-sound-map : (rule : Rule) (t : Tables) → (sound rule t ≡ true) ↔ SoundMap rule t

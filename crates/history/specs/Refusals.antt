@@ -202,11 +202,12 @@ module _ (rule : Rule) (t : Tables) (points answers : List ℕ) where
     pub answered : (d : ℕ) → located ≡ Done d → AnswersAll (t .lines) points answers (locateOf rule t points answers .answers)
     pub kept : 0 < refusalOf located → locateOf rule t points answers .answers ≡ answers
 
--- the side and corner are 0, and the part has length 0
+-- the side and corner are 0, and the part has length 0, at the listing table's start
 pub record Nothing (r : Showing) : Type 0 where
   pub side : r .told .side ≡ 0
   pub west : r .told .west .0 ≡ 0
   pub south : r .told .south .0 ≡ 0
+  pub first : r .first ≡ 0
   pub part : r .part ≡ []
 
 module _ (rule : Rule) (t : Tables) (x y : ℕ) where
