@@ -74,10 +74,13 @@ pub record OwnCases : Type 0 where
   pub noSlot : numbers baseRule threeSides (line 5 5 6 6 ∷ line 0 5 6 6 ∷ []) ≡ refusal 6 0 ∷ refusal 5 0 ∷ []
   pub noRoom : numbers baseRule (twoSides 4) (line 5 5 6 6 ∷ []) ≡ refusal 7 0 ∷ []
   pub unknown : numbers baseRule (twoSides 4) (delete 1 ∷ delete 65540 ∷ delete 196609 ∷ delete 131079 ∷ []) ≡ refusal 8 0 ∷ refusal 8 0 ∷ refusal 8 0 ∷ 0 ∷ []
+  -- seven calls, each on what the one before left
+  pub sevenCalls : numbers baseRule (fresh 1 6 3) (line 0 0 0 16383 ∷ delete 1 ∷ line 0 0 0 16383 ∷ delete 2 ∷ line 0 0 0 16383 ∷ delete 3 ∷ line 0 0 0 16383 ∷ []) ≡ 1 ∷ 0 ∷ 2 ∷ 0 ∷ 3 ∷ 0 ∷ 4 ∷ []
+  pub sevenLeft : afterAll baseRule (fresh 1 6 3) (line 0 0 0 16383 ∷ delete 1 ∷ line 0 0 0 16383 ∷ delete 2 ∷ line 0 0 0 16383 ∷ delete 3 ∷ line 0 0 0 16383 ∷ []) ≡ record { lines = 1 ∷ 4 ∷ 0 ∷ 0 ∷ 0 ∷ 16383 ∷ 0 ∷ 0 ∷ []; nodes = 65535 ∷ 1 ∷ 0 ∷ 1 ∷ 0 ∷ 0 ∷ []; listings = 0 ∷ 0 ∷ 0 ∷ [] }
   -- the paper's run-only case, on short tables
   pub runOnly : showOf baseRule (afterAll baseRule (fresh 4 200 200) (line 0 0 8 8 ∷ line 0 0 8 7 ∷ line 4 7 5 7 ∷ delete 131073 ∷ [])) 0 0 ≡ shows 16 0 0 2 (0 ∷ 1 ∷ [])
 
 pub ownCases : OwnCases
 unfolding those every upFrom sameList turn leftOf rightOf corners meets inside samePoint isEnd on within parts conflict endsOf simpleWith simple listed tree nodesOf listingsOf padded lengthsFit slotsOf isLive lineAt liveSlots liveLines liveSound emptySound slotSound noneConflict nodeTable listingTable sound rebuilt withSlot cleared startOf givenLine allOnGrid noLength conflicting freeSlots placed roomFor insertOf known freed deleteOf below run heightOver rise higher highest upperLabel answerAt answerTo answersTo locateOf leafAt leafOver showOf replyTo afterAll numbers baseRule treeBy
 ownCases =
-    record { start = refl; upright = refl; fanNodes = refl; fanListings = refl; leafNW = refl; leafNE = refl; leafSW = refl; leafSE = refl; leafEmpty = refl; between = refl; emptied = refl; seven = refl; refusals = refl; lengths = refl; startLengths = refl; lists = refl; damaged = refl; offGrid = refl; noLength = refl; conflicts = refl; noSlot = refl; noRoom = refl; unknown = refl; runOnly = refl }
+    record { start = refl; upright = refl; fanNodes = refl; fanListings = refl; leafNW = refl; leafNE = refl; leafSW = refl; leafSE = refl; leafEmpty = refl; between = refl; emptied = refl; seven = refl; refusals = refl; lengths = refl; startLengths = refl; lists = refl; damaged = refl; offGrid = refl; noLength = refl; conflicts = refl; noSlot = refl; noRoom = refl; unknown = refl; sevenCalls = refl; sevenLeft = refl; runOnly = refl }

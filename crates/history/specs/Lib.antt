@@ -16,4 +16,5 @@ pub mod Left
 pub mod Exact
 pub mod Accepted
 pub mod Room
+pub mod Grown
 pub mod Promised

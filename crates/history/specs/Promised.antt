@@ -4,10 +4,10 @@ use mathlib.Core.Path.{_≡_, refl}
 use mathlib.Core.Logic.{_⊎_, _↔_}
 use mathlib.Core.Bool.{true, not, _&&_}
 use mathlib.Core.List.{List, [], _∷_, _++_, List·Memᴰ}
-use Prim.Native.Nat.{ℕ, _+_, _*_, _/_, _≤_, _<_}
+use Prim.Native.Nat.{ℕ, _+_, _*_, _/_, _%_, _≤_, _<_}
 use native.Mathlib.Omega.{arith}
 use lib.Dec.{eqb}
-use lib.ListN.{length}
+use lib.ListN.{length, replicate}
 use Rattle.algebra.specs.Words.{those, every, padded, if_then_else_}
 use Rattle.definitions.specs.declared.Answer.{Answer}
 use Rattle.definitions.specs.declared.Answer.the-variants.{Done, Lengths, Damaged, OffGrid, NoLength, Conflict, NoSlot, NoRoom, UnknownHandle}
@@ -16,7 +16,7 @@ use Rattle.definitions.specs.declared.Point.{Point}
 use Rattle.definitions.specs.Shape.{Line, Block, wholeMap, gridPoint, meets, conflict}
 use Rattle.definitions.specs.Tree.{Rule, Tree, simple, baseRule, tree, listed, nodesOf, listingsOf}
 use Rattle.definitions.specs.Tables.{Tables, lengthsFit, generation, slotsOf, lineAt, liveSlots, liveLines, onGrid, slotSound, noneConflict, sound}
-use Rattle.definitions.specs.Calls.{numberOf, refusalOf, detailOf, cleared, startOf, insertOf, deleteOf, givenLine}
+use Rattle.definitions.specs.Calls.{numberOf, refusalOf, detailOf, cleared, startOf, insertOf, deleteOf, givenLine, known}
 use Rattle.definitions.specs.Lookup.{answerAt, answerTo, locateOf, showOf}
 use Rattle.definitions.specs.History.{Call, afterAll}
 use Rattle.definitions.specs.Meaning.{Spot, OnLine, InBlock, In, Meets, Conflicts, Criteria, IsTree, LeafAt, ListedFrom, Stored, Tabled, Live, SoundMap, AnswersTo}
@@ -36,6 +36,7 @@ use Rattle.meaning.specs.Stored.{stored-lists, lists-stored, tabled-iff}
 use Rattle.meaning.specs.Whole.{MeetsWhole, ConflictsWhole, nothing-lost}
 use Rattle.history.specs.Demand.{Held, Distinct, givenBy, heard, Stands, liveHeld, SameLines, Alike}
 use Rattle.history.specs.Exact.{start-exact, insert-exact, delete-exact, locate-exact, show-exact, no-slot-16}
+use Rattle.history.specs.Grown.{grown, grown-sound, grown-held, grown-known}
 use Rattle.history.specs.Holds.{demand-3}
 use Rattle.history.specs.Refusals.{None, Some, Lowest, WrongLengths, WrongLists, Unsound, AboveGrid, EndsEqual, InTheWay, AllTaken, Vacant, NeedsMore, TooLarge, Unknown, All0, PutIn, TakenOut, AnswersAll}
 use Rattle.history.specs.Remains.{delete-tree}
@@ -286,3 +287,20 @@ module _ (rule : Rule) (fair : Fair rule) (t : Tables) (fit : lengthsFit t ≡ t
       → (deleteOf rule (insertOf rule reached g .after) h .answer ≡ Done 0)
       × (deleteOf rule (insertOf rule reached g .after) h .after .nodes ≡ reached .nodes) × (deleteOf rule (insertOf rule reached g .after) h .after .listings ≡ reached .listings)
   restored-at-once g h e = let r = demand-3 rule fair t fit cs .restored g h e in (r .done, r .nodes, r .listings)
+
+-- ---- A map lent longer: so many slots, node and listing entries more, all 0
+module _ (rule : Rule) (t : Tables) (a n m : ℕ) (whole : length (t .lines) % 8 ≡ 0) where
+  abbrev longer : Tables
+  longer = record { lines = t .lines ++ replicate (8 * a) 0; nodes = t .nodes ++ replicate n 0; listings = t .listings ++ replicate m 0 }
+
+  longer-sound : SoundMap rule t → SoundMap rule longer
+  unfolding grown
+  longer-sound = grown-sound rule t a n m whole
+
+  longer-holds : liveHeld (longer .lines) ≡ liveHeld (t .lines)
+  unfolding grown
+  longer-holds = grown-held t a n m whole
+
+  longer-knows : (h : ℕ) → known (longer .lines) h ≡ known (t .lines) h
+  unfolding grown
+  longer-knows h = grown-known t a n m h whole
