@@ -1,7 +1,7 @@
 # make           proves and builds the library, and builds the tool over it
 # make demo      replays examples/demo.map and draws build/demo.svg
 # make test      the header, the tool and its examples; then all of tests/run
-# make capacity  prints the table of docs/CAPACITY.md
+# make capacity  prints the tables of docs/CAPACITY.md
 # make valgrind  the tool over all examples, under valgrind
 # make examples  writes what the examples are expected to give anew: read the difference
 # make bench     times every call on the maps of bench/maps, beside a twin in C and the naive way

@@ -1,9 +1,84 @@
-/* Compiled only: the header that is installed declares the calls as the tests do, or this does not compile. */
+/* The installed header beside the library that is linked: it declares the calls as the tests do, or this does not
+ * compile; both are of one version; and its check of a map tells a sound one from a damaged one. */
 #include "library.h"
 
 #include "../include/boundary_map.h"
 
+#include <stdio.h>
+#include <string.h>
+
+static int passed, failed;
+
+static void expect(int holds, const char *what)
+{
+    passed += holds != 0;
+    failed += holds == 0;
+    if (!holds)
+        printf("header: not so: %s\n", what);
+}
+
+#define EXPECT(condition) expect((condition), #condition)
+
+static uint16_t lines[BOUNDARY_MAP_LINES_LEN(2)], nodes[64], listings[64];
+
+static struct boundary_map map = { lines, BOUNDARY_MAP_LINES_LEN(2), nodes, 64, listings, 64 };
+
+static void version(void)
+{
+    EXPECT(boundary_map_version() == BOUNDARY_MAP_VERSION_NUMBER);
+}
+
+static void check_tells(void)
+{
+    memset(lines, 0x5a, sizeof lines);
+    EXPECT(boundary_map_check(&map) == BOUNDARY_MAP_DAMAGED);
+    EXPECT(boundary_map_start(BOUNDARY_MAP_LENT(&map)) == 0);
+    EXPECT(boundary_map_check(&map) == BOUNDARY_MAP_DONE);
+    EXPECT(boundary_map_insert(BOUNDARY_MAP_LENT(&map), 0, 8000, 16383, 8000, 7, 9) == 1);
+    EXPECT(boundary_map_check(&map) == BOUNDARY_MAP_DONE);
+    map.nodes_len = 0;
+    EXPECT(boundary_map_check(&map) == BOUNDARY_MAP_LENGTHS);
+    map.nodes_len = 64;
+}
+
+/* As the header has it of a damaged map: nothing changes, no call but start takes it, and it is made anew. */
+static void after_damage(void)
+{
+    const uint16_t kept[6] = { 0, 8000, 16383, 8000, 7, 9 };
+    uint16_t before[BOUNDARY_MAP_LINES_LEN(2)];
+
+    nodes[0] ^= 1;
+    memcpy(before, lines, sizeof lines);
+    EXPECT(boundary_map_check(&map) == BOUNDARY_MAP_DAMAGED);
+    EXPECT(boundary_map_refusal(boundary_map_delete(BOUNDARY_MAP_LENT(&map), 1)) == BOUNDARY_MAP_DAMAGED);
+    EXPECT(memcmp(before, lines, sizeof lines) == 0);
+    EXPECT(boundary_map_start(BOUNDARY_MAP_LENT(&map)) == 0);
+    EXPECT(boundary_map_insert(BOUNDARY_MAP_LENT(&map), kept[0], kept[1], kept[2], kept[3], kept[4], kept[5]) == 1);
+    EXPECT(boundary_map_check(&map) == BOUNDARY_MAP_DONE);
+}
+
+/* A label changed leaves a sound map, as the header has it of rule 5. */
+static void label_changed(void)
+{
+    lines[BOUNDARY_MAP_LEFT] = 8;
+    EXPECT(boundary_map_check(&map) == BOUNDARY_MAP_DONE);
+}
+
+static void conflict_named(void)
+{
+    uint64_t refused = boundary_map_insert(BOUNDARY_MAP_LENT(&map), 40, 0, 40, 16383, 7, 9);
+
+    EXPECT(boundary_map_refusal(refused) == BOUNDARY_MAP_CONFLICT);
+    EXPECT(boundary_map_conflict_slot(boundary_map_detail(refused)) == 0);
+}
+
 int main(void)
 {
-    return 0;
+    version();
+    check_tells();
+    after_damage();
+    label_changed();
+    conflict_named();
+    printf("header: %d passed, %d failed\n", passed, failed);
+    return failed != 0;
 }

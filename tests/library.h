@@ -17,5 +17,6 @@ uint64_t boundary_map_locate(const uint16_t *lines, size_t lines_len, const uint
                              size_t nodes_len, const uint16_t *listings, size_t listings_len,
                              const uint16_t *points, size_t points_len, uint32_t *answers,
                              size_t answers_len);
+uint32_t boundary_map_version(void);
 
 #endif

@@ -1,8 +1,6 @@
-/* Measures how many lines of a kind fit into the largest tables: prints the
-** table of docs/CAPACITY.md. Lines are put in one after another until there is
-** no room for the next, no slot, or no next line. */
+/* Measures how many lines of a kind fit into the largest tables, and how long
+** two close lines may be: prints the tables of docs/CAPACITY.md. */
 #include <stdio.h>
-#include <string.h>
 
 #include "tables.h"
 
@@ -13,7 +11,8 @@ struct line {
 /* The kind's line number i; 0 if there is none. */
 typedef int family(unsigned i, struct line *line);
 
-static struct map map;
+static struct room room;
+static struct boundary_map map;
 
 static struct line between(unsigned x1, unsigned y1, unsigned x2, unsigned y2) {
   struct line line = {(uint16_t)x1, (uint16_t)y1, (uint16_t)x2, (uint16_t)y2};
@@ -118,21 +117,51 @@ static int spokes(unsigned i, struct line *line) {
   return 1;
 }
 
-/* Puts lines in until the map answers 6 or 7; lines in the way are passed over. */
+static void begin(void) {
+  map = lend(&room, BOUNDARY_MAP_SLOTS_MAX, BOUNDARY_MAP_NODES_MAX, BOUNDARY_MAP_LISTINGS_MAX);
+  boundary_map_start(BOUNDARY_MAP_LENT(&map));
+}
+
+static uint32_t put(struct line line) {
+  return boundary_map_refusal(boundary_map_insert(BOUNDARY_MAP_LENT(&map), line.x1, line.y1, line.x2, line.y2, 1, 2));
+}
+
+/* Puts lines in, one after another, until there is no room for the next, no
+** slot, or no next line; lines in the way are passed over. */
 static void measure(const char *name, family *next) {
   struct line line;
   uint32_t refusal = 0;
-  memset(&map, 0, sizeof map);
-  map.slots = BOUNDARY_MAP_SLOTS_MAX;
-  map.nodes_len = BOUNDARY_MAP_NODES_MAX;
-  map.listings_len = BOUNDARY_MAP_LISTINGS_MAX;
-  boundary_map_start(LENT(&map));
+  begin();
   for (unsigned i = 0; refusal != BOUNDARY_MAP_NO_SLOT && refusal != BOUNDARY_MAP_NO_ROOM && next(i, &line); i++)
-    refusal = boundary_map_refusal(boundary_map_insert(LENT(&map), line.x1, line.y1, line.x2, line.y2, 1, 2));
+    refusal = put(line);
   struct fullness full = fullness_of(&map);
   const char *end = refusal == BOUNDARY_MAP_NO_ROOM ? "7, no room" : refusal == BOUNDARY_MAP_NO_SLOT ? "6, no slot" : "all in";
   printf("| %s | %zu | %s | %zu | %zu | %.1f |\n", name, full.live, end, full.used.node, full.used.listing,
          (double)full.used.node / (double)full.live);
+}
+
+/* Puts in two lines side by side, one step apart: of every 16 steps so many go
+** east, and so many north. */
+static int two_fit(unsigned steps, unsigned east, unsigned north) {
+  unsigned x = 100 + steps * east / 16, y = 100 + steps * north / 16;
+  unsigned aside = east == 0, above = east != 0;
+  begin();
+  return put(between(100, 100, x, y)) == BOUNDARY_MAP_DONE &&
+         put(between(100 + aside, 100 + above, x + aside, y + above)) == BOUNDARY_MAP_DONE;
+}
+
+/* How long two lines can be: these fit, and one step longer they do not. */
+static void measure_two(const char *name, unsigned east, unsigned north) {
+  unsigned fit = 1, too_long = BOUNDARY_MAP_GRID_MAX - 100;
+  while (too_long - fit > 1) {
+    unsigned middle = (fit + too_long) / 2;
+    if (two_fit(middle, east, north)) fit = middle;
+    else too_long = middle;
+  }
+  two_fit(fit, east, north);
+  struct fullness full = fullness_of(&map);
+  printf("| %s | %u | %zu | %zu | %.1f |\n", name, fit, full.used.node, full.used.listing,
+         (double)full.used.node / (double)fit);
 }
 
 int main(void) {
@@ -153,5 +182,10 @@ int main(void) {
   measure("long fan, 256 apart", fan256);
   measure("long fan, 64 apart", fan64);
   measure("long fan, 4 apart", fan4);
+  puts("\n| Two lines 1 step apart | fit for steps | nodes | listings | nodes a step |\n|---|---|---|---|---|");
+  measure_two("level", 16, 0);
+  measure_two("rising 1 in 16", 16, 1);
+  measure_two("at 45 degrees", 16, 16);
+  measure_two("upright", 0, 16);
   return ferror(stdout) != 0;
 }

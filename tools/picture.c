@@ -80,9 +80,9 @@ static void reach(struct extent *e, uint16_t x, uint16_t y) {
 }
 
 static struct extent extent_of(const struct replay *replay) {
-  const struct map *map = &replay->map;
+  const struct boundary_map *map = &replay->map;
   struct extent e = {BOUNDARY_MAP_SIDE, BOUNDARY_MAP_SIDE, 0, 0};
-  for (size_t slot = 0; slot < map->slots; slot++) {
+  for (size_t slot = 0; slot < slots_of(map); slot++) {
     if (!entry_of(map, slot, BOUNDARY_MAP_LIVE)) continue;
     reach(&e, entry_of(map, slot, BOUNDARY_MAP_X1), entry_of(map, slot, BOUNDARY_MAP_Y1));
     reach(&e, entry_of(map, slot, BOUNDARY_MAP_X2), entry_of(map, slot, BOUNDARY_MAP_Y2));
@@ -111,9 +111,9 @@ static struct block window_of(const struct replay *replay, int whole) {
 
 /* Notes the labels of live lines and of answers, and ranks them. */
 static void note_regions(struct picture *p) {
-  const struct map *map = &p->replay->map;
+  const struct boundary_map *map = &p->replay->map;
   size_t rank = 0;
-  for (size_t slot = 0; slot < map->slots; slot++) {
+  for (size_t slot = 0; slot < slots_of(map); slot++) {
     if (!entry_of(map, slot, BOUNDARY_MAP_LIVE)) continue;
     p->regions[entry_of(map, slot, BOUNDARY_MAP_LEFT)].seen = 1;
     p->regions[entry_of(map, slot, BOUNDARY_MAP_RIGHT)].seen = 1;
@@ -207,7 +207,7 @@ struct stroke {
 };
 
 static struct stroke stroke_of(const struct picture *p, size_t slot) {
-  const struct map *map = &p->replay->map;
+  const struct boundary_map *map = &p->replay->map;
   struct stroke stroke = {
       spot_of_grid(p, entry_of(map, slot, BOUNDARY_MAP_X1), entry_of(map, slot, BOUNDARY_MAP_Y1)),
       spot_of_grid(p, entry_of(map, slot, BOUNDARY_MAP_X2), entry_of(map, slot, BOUNDARY_MAP_Y2))};
@@ -215,7 +215,7 @@ static struct stroke stroke_of(const struct picture *p, size_t slot) {
 }
 
 static void draw_line(const struct picture *p, size_t slot) {
-  const struct map *map = &p->replay->map;
+  const struct boundary_map *map = &p->replay->map;
   struct stroke s = stroke_of(p, slot);
   fprintf(p->out, "<path d=\"M%.1f %.1fL%.1f %.1f\"><title>slot %zu, generation %u: (%u, %u)-(%u, %u) left %u right %u</title></path>\n",
           s.a.x, s.a.y, s.b.x, s.b.y, slot, entry_of(map, slot, BOUNDARY_MAP_GENERATION),
@@ -237,7 +237,7 @@ static void draw_label(const struct picture *p, struct spot at, double font, uin
 /* The labels, each on its side of the line. They stand a little before and
 ** after the middle, so that those of two close lines do not fall together. */
 static void draw_labels(struct picture *p, size_t slot) {
-  const struct map *map = &p->replay->map;
+  const struct boundary_map *map = &p->replay->map;
   struct stroke s = stroke_of(p, slot);
   double dx = s.b.x - s.a.x, dy = s.b.y - s.a.y, length = sqrt(dx * dx + dy * dy);
   double font = length < LABEL_LARGE ? FONT_SMALL : FONT;
@@ -255,15 +255,15 @@ static void draw_labels(struct picture *p, size_t slot) {
 }
 
 static void draw_lines(struct picture *p) {
-  const struct map *map = &p->replay->map;
+  const struct boundary_map *map = &p->replay->map;
   fputs("<g stroke=\"" INK "\" stroke-width=\"1.6\" stroke-linecap=\"round\">\n", p->out);
-  for (size_t slot = 0; slot < map->slots; slot++)
+  for (size_t slot = 0; slot < slots_of(map); slot++)
     if (entry_of(map, slot, BOUNDARY_MAP_LIVE)) draw_line(p, slot);
   fputs("</g>\n<g fill=\"" INK "\">\n", p->out);
-  for (size_t slot = 0; slot < map->slots; slot++)
+  for (size_t slot = 0; slot < slots_of(map); slot++)
     if (entry_of(map, slot, BOUNDARY_MAP_LIVE)) draw_ends(p, slot);
   fputs("</g>\n<g font-weight=\"bold\" text-anchor=\"middle\">\n", p->out);
-  for (size_t slot = 0; slot < map->slots; slot++)
+  for (size_t slot = 0; slot < slots_of(map); slot++)
     if (entry_of(map, slot, BOUNDARY_MAP_LIVE)) draw_labels(p, slot);
   fputs("</g>\n", p->out);
 }
@@ -354,10 +354,10 @@ static void legend_points(const struct picture *p, double *y) {
 }
 
 static void legend_fullness(const struct picture *p, double *y) {
-  const struct map *map = &p->replay->map;
+  const struct boundary_map *map = &p->replay->map;
   struct fullness full = fullness_of(map);
   *y += 10;
-  legend_text(p, y, "%zu lines in %zu slots", full.live, map->slots);
+  legend_text(p, y, "%zu lines in %zu slots", full.live, slots_of(map));
   legend_text(p, y, "%zu of %zu nodes", full.used.node, map->nodes_len);
   legend_text(p, y, "%zu of %zu listings", full.used.listing, map->listings_len);
   if (p->unlabelled > 0) legend_text(p, y, "%zu short lines without labels", p->unlabelled);

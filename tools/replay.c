@@ -24,7 +24,7 @@ void replay_free(struct replay *replay) {
 /* Prints what every answer has, and counts it. Answers whether it is done. */
 static int told(struct replay *replay, uint64_t answer, FILE *out) {
   uint32_t refusal = boundary_map_refusal(answer);
-  replay->refused[refusal <= BOUNDARY_MAP_UNKNOWN_HANDLE ? refusal : 0]++;
+  replay->refused[refusal <= BOUNDARY_MAP_REFUSAL_MAX ? refusal : 0]++;
   if (refusal == BOUNDARY_MAP_DONE) fputs("done", out);
   else fprintf(out, "refused %lu, %s", (unsigned long)refusal, boundary_map_errstr(refusal));
   return refusal == BOUNDARY_MAP_DONE;
@@ -37,14 +37,12 @@ static void print_handle(uint32_t handle, FILE *out) {
 
 /* Lends tables of these lengths and starts a map in them. */
 static void start(struct replay *replay, const uint32_t *n, FILE *out) {
-  struct map *map = &replay->map;
-  map->slots = n[0];
-  map->nodes_len = n[1];
-  map->listings_len = n[2];
+  const struct boundary_map *map = &replay->map;
+  replay->map = lend(&replay->room, n[0], n[1], n[2]);
   replay->asked_count = replay->leaves_count = 0;
   memset(replay->refused, 0, sizeof replay->refused);
-  fprintf(out, "slots %zu, nodes %zu, listings %zu: ", map->slots, map->nodes_len, map->listings_len);
-  told(replay, boundary_map_start(LENT(map)), out);
+  fprintf(out, "slots %zu, nodes %zu, listings %zu: ", slots_of(map), map->nodes_len, map->listings_len);
+  told(replay, boundary_map_start(BOUNDARY_MAP_LENT(map)), out);
   fputc('\n', out);
 }
 
@@ -52,12 +50,12 @@ static void insert(struct replay *replay, const uint32_t *n, FILE *out) {
   uint16_t v[6];
   for (int i = 0; i < 6; i++) v[i] = (uint16_t)n[i];
   fprintf(out, "(%u, %u)-(%u, %u) left %u right %u: ", v[0], v[1], v[2], v[3], v[4], v[5]);
-  uint64_t answer = boundary_map_insert(LENT(&replay->map), v[0], v[1], v[2], v[3], v[4], v[5]);
+  uint64_t answer = boundary_map_insert(BOUNDARY_MAP_LENT(&replay->map), v[0], v[1], v[2], v[3], v[4], v[5]);
   if (told(replay, answer, out)) {
     fputs(", ", out);
     print_handle(boundary_map_detail(answer), out);
   } else if (boundary_map_refusal(answer) == BOUNDARY_MAP_CONFLICT) {
-    fprintf(out, " (slot %lu)", (unsigned long)boundary_map_detail(answer));
+    fprintf(out, " (slot %lu)", (unsigned long)boundary_map_conflict_slot(boundary_map_detail(answer)));
   }
   fputc('\n', out);
 }
@@ -65,7 +63,7 @@ static void insert(struct replay *replay, const uint32_t *n, FILE *out) {
 static void delete(struct replay *replay, uint32_t handle, FILE *out) {
   print_handle(handle, out);
   fputs(": ", out);
-  told(replay, boundary_map_delete(LENT(&replay->map), handle), out);
+  told(replay, boundary_map_delete(BOUNDARY_MAP_LENT(&replay->map), handle), out);
   fputc('\n', out);
 }
 
@@ -85,7 +83,7 @@ static void locate(struct replay *replay, const uint32_t *n, size_t count, FILE 
   size_t points = count / 2;
   for (size_t i = 0; i < count; i++) replay->points[i] = (uint16_t)n[i];
   fprintf(out, "%zu %s: ", points, points == 1 ? "point" : "points");
-  uint64_t answer = boundary_map_locate(LENT(&replay->map), replay->points, count, replay->answers, points);
+  uint64_t answer = boundary_map_locate(BOUNDARY_MAP_LENT(&replay->map), replay->points, count, replay->answers, points);
   int done = told(replay, answer, out);
   fputc('\n', out);
   for (size_t i = 0; done && i < points; i++) {
@@ -100,7 +98,7 @@ static void locate(struct replay *replay, const uint32_t *n, size_t count, FILE 
 /* Show leaf does not cross the C boundary: the host has the tables in its
 ** hands and reads them, with the library's own number for a point off the grid. */
 static void leaf(struct replay *replay, const uint32_t *n, FILE *out) {
-  const struct map *map = &replay->map;
+  const struct boundary_map *map = &replay->map;
   uint16_t x = (uint16_t)n[0], y = (uint16_t)n[1];
   fprintf(out, "(%u, %u): ", x, y);
   if (x > BOUNDARY_MAP_GRID_MAX || y > BOUNDARY_MAP_GRID_MAX) {
@@ -118,16 +116,16 @@ static void leaf(struct replay *replay, const uint32_t *n, FILE *out) {
 }
 
 static void print_fullness(const struct replay *replay, FILE *out) {
-  const struct map *map = &replay->map;
+  const struct boundary_map *map = &replay->map;
   struct fullness full = fullness_of(map);
   size_t refusals = 0;
-  for (int i = 1; i <= BOUNDARY_MAP_UNKNOWN_HANDLE; i++) refusals += replay->refused[i];
+  for (int i = 1; i <= BOUNDARY_MAP_REFUSAL_MAX; i++) refusals += replay->refused[i];
   fprintf(out, "\nslots     %zu live, %zu free, %zu retired, of %zu lent\n", full.live, full.free, full.retired,
-          map->slots);
+          slots_of(map));
   fprintf(out, "nodes     %zu used of %zu lent\n", full.used.node, map->nodes_len);
   fprintf(out, "listings  %zu used of %zu lent\n", full.used.listing, map->listings_len);
   fprintf(out, "answers   %zu done, %zu refused", replay->refused[BOUNDARY_MAP_DONE], refusals);
-  for (int i = 1; i <= BOUNDARY_MAP_UNKNOWN_HANDLE; i++)
+  for (int i = 1; i <= BOUNDARY_MAP_REFUSAL_MAX; i++)
     if (replay->refused[i] > 0) fprintf(out, "; %zu with %d", replay->refused[i], i);
   fputc('\n', out);
 }

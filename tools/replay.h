@@ -15,12 +15,13 @@ struct asked {
 
 /* What a replay leaves: the last map, and what was asked of it, for drawing. */
 struct replay {
-  struct map map;
+  struct room room;
+  struct boundary_map map;
   struct asked *asked;
   size_t asked_count;
   struct leaf *leaves;
   size_t leaves_count;
-  size_t refused[BOUNDARY_MAP_UNKNOWN_HANDLE + 1];
+  size_t refused[BOUNDARY_MAP_REFUSAL_MAX + 1];
   uint16_t *points;
   uint32_t *answers;
 };

@@ -1,6 +1,16 @@
 /* Reading the lent tables on the host's side. */
 #include "tables.h"
 
+struct boundary_map lend(struct room *room, size_t slots, size_t nodes_len, size_t listings_len) {
+  struct boundary_map map = {room->lines,    BOUNDARY_MAP_LINES_LEN(slots), room->nodes, nodes_len,
+                             room->listings, listings_len};
+  return map;
+}
+
+size_t slots_of(const struct boundary_map *map) {
+  return map->lines_len / BOUNDARY_MAP_SLOT_LEN;
+}
+
 struct block block_son(struct block block, int son) {
   uint32_t half = block.side / 2;
   struct block quarter = {block.west + (son % 2 ? half : 0), block.south + (son < 2 ? half : 0), half};
@@ -22,7 +32,7 @@ static struct place pass(const uint16_t *nodes, struct place at) {
   return at;
 }
 
-struct leaf leaf_at(const struct map *map, uint16_t x, uint16_t y) {
+struct leaf leaf_at(const struct boundary_map *map, uint16_t x, uint16_t y) {
   uint32_t px = BOUNDARY_MAP_HALF_STEP((uint32_t)x), py = BOUNDARY_MAP_HALF_STEP((uint32_t)y);
   struct block block = {0, 0, BOUNDARY_MAP_SIDE};
   struct place at = {0, 0};
@@ -38,14 +48,14 @@ struct leaf leaf_at(const struct map *map, uint16_t x, uint16_t y) {
   return leaf;
 }
 
-uint16_t entry_of(const struct map *map, size_t slot, enum boundary_map_entry entry) {
+uint16_t entry_of(const struct boundary_map *map, size_t slot, enum boundary_map_entry entry) {
   return map->lines[BOUNDARY_MAP_LINES_LEN(slot) + (size_t)entry];
 }
 
-struct fullness fullness_of(const struct map *map) {
+struct fullness fullness_of(const struct boundary_map *map) {
   struct place start = {0, 0};
   struct fullness full = {0, 0, 0, {0, 0}};
-  for (size_t slot = 0; slot < map->slots; slot++) {
+  for (size_t slot = 0; slot < slots_of(map); slot++) {
     if (entry_of(map, slot, BOUNDARY_MAP_LIVE)) full.live++;
     else if (entry_of(map, slot, BOUNDARY_MAP_GENERATION) == BOUNDARY_MAP_GENERATION_MAX) full.retired++;
     else full.free++;

@@ -9,18 +9,15 @@
 
 #include "boundary_map.h"
 
-/* The three tables as lent. */
-struct map {
+/* Memory for the largest map. */
+struct room {
   uint16_t lines[BOUNDARY_MAP_LINES_MAX];
   uint16_t nodes[BOUNDARY_MAP_NODES_MAX];
   uint16_t listings[BOUNDARY_MAP_LISTINGS_MAX];
-  size_t slots, nodes_len, listings_len;
 };
 
-/* The six arguments that every call begins with. */
-#define LENT(m)                                                                                 \
-  (m)->lines, BOUNDARY_MAP_LINES_LEN((m)->slots), (m)->nodes, (m)->nodes_len, (m)->listings,   \
-      (m)->listings_len
+/* A map of these sizes in the first entries of the room, whatever they hold. */
+struct boundary_map lend(struct room *room, size_t slots, size_t nodes_len, size_t listings_len);
 
 /* A block, in half-steps. */
 struct block {
@@ -47,11 +44,13 @@ struct fullness {
 struct block block_son(struct block block, int son);
 
 /* The leaf that holds the grid point. Both coordinates are on the grid. */
-struct leaf leaf_at(const struct map *map, uint16_t x, uint16_t y);
+struct leaf leaf_at(const struct boundary_map *map, uint16_t x, uint16_t y);
 
-struct fullness fullness_of(const struct map *map);
+size_t slots_of(const struct boundary_map *map);
+
+struct fullness fullness_of(const struct boundary_map *map);
 
 /* A slot's entry, as the header names it. */
-uint16_t entry_of(const struct map *map, size_t slot, enum boundary_map_entry entry);
+uint16_t entry_of(const struct boundary_map *map, size_t slot, enum boundary_map_entry entry);
 
 #endif

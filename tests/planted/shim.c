@@ -29,6 +29,7 @@ uint64_t __real_boundary_map_insert(uint16_t *, size_t, uint16_t *, size_t, uint
 uint64_t __real_boundary_map_delete(uint16_t *, size_t, uint16_t *, size_t, uint16_t *, size_t, uint32_t);
 uint64_t __real_boundary_map_locate(const uint16_t *, size_t, const uint16_t *, size_t, const uint16_t *,
                                     size_t, const uint16_t *, size_t, uint32_t *, size_t);
+uint32_t __real_boundary_map_version(void);
 
 static uint64_t start(struct tables t)
 {
@@ -656,23 +657,32 @@ static uint64_t leaves_last_node(struct tables t)
     return result;
 }
 
+/* The version: of the next patch, as if the archive were another than the header's */
+
+static uint32_t another_version(void)
+{
+    return __real_boundary_map_version() + 1;
+}
+
 /* The list of them */
 
 struct planted {
     const char *name;
+    uint32_t (*version)(void);
     uint64_t (*start)(struct tables);
     uint64_t (*insert)(struct tables, const uint16_t *);
     uint64_t (*remove)(struct tables, uint32_t);
     uint64_t (*locate)(struct tables, struct lists);
 };
 
-#define ON_START(f) f, insert, delete_handle, locate
-#define ON_INSERT(f) start, f, delete_handle, locate
-#define ON_DELETE(f) start, insert, f, locate
-#define ON_LOCATE(f) start, insert, delete_handle, f
+#define ON_START(f) __real_boundary_map_version, f, insert, delete_handle, locate
+#define ON_INSERT(f) __real_boundary_map_version, start, f, delete_handle, locate
+#define ON_DELETE(f) __real_boundary_map_version, start, insert, f, locate
+#define ON_LOCATE(f) __real_boundary_map_version, start, insert, delete_handle, f
+#define ON_VERSION(f) f, start, insert, delete_handle, locate
 
 static const struct planted plants[] = {
-    { "nothing", start, insert, delete_handle, locate },
+    { "nothing", ON_VERSION(__real_boundary_map_version) },
     { "refusal 5 names the highest slot", ON_INSERT(names_highest_conflict) },
     { "the last leaf's count changed after insert", ON_INSERT(changes_last_leaf) },
     { "two slots of a leaf listed falling", ON_INSERT(lists_falling) },
@@ -709,6 +719,7 @@ static const struct planted plants[] = {
     { "2 before 1 where a list's length is wrong", ON_LOCATE(damage_before_list_length) },
     { "start leaves the generations", ON_START(leaves_generations) },
     { "start leaves the last node", ON_START(leaves_last_node) },
+    { "the version of another header", ON_VERSION(another_version) },
 };
 
 static const struct planted *planted(void)
@@ -765,4 +776,9 @@ uint64_t __wrap_boundary_map_locate(const uint16_t *lines, size_t lines_len, con
     struct lists s = { points, answers, points_len, answers_len };
 
     return planted()->locate(t, s);
+}
+
+uint32_t __wrap_boundary_map_version(void)
+{
+    return planted()->version();
 }

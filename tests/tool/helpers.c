@@ -25,6 +25,8 @@ static void answers_of_calls(void) {
   WANT(boundary_map_detail(UINT64_C(5) * 4294967296 + 1023) == 1023);
   WANT(boundary_map_refusal(UINT64_C(34359738368)) == BOUNDARY_MAP_UNKNOWN_HANDLE);
   WANT(boundary_map_detail(UINT64_MAX) == UINT32_MAX);
+  WANT(boundary_map_conflict_slot(0) == 0 && boundary_map_conflict_slot(1023) == 1023);
+  WANT(boundary_map_conflict_slot(4 * UINT32_C(65536) + 1023) == 1023); /* a kind above it, as a later version tells */
 }
 
 static void words(void) {
@@ -33,6 +35,9 @@ static void words(void) {
     WANT(text != NULL && text[0] != '\0');
     for (uint32_t k = 0; k < i && k < 9; k++) WANT(i > 9 || strcmp(text, boundary_map_errstr(k)) != 0);
   }
+  /* The largest refusal has words of its own; the number after it has those of no refusal. */
+  WANT(strcmp(boundary_map_errstr(BOUNDARY_MAP_REFUSAL_MAX), boundary_map_errstr(UINT32_MAX)) != 0);
+  WANT(strcmp(boundary_map_errstr(BOUNDARY_MAP_REFUSAL_MAX + 1), boundary_map_errstr(UINT32_MAX)) == 0);
   WANT(boundary_map_errstr(UINT32_MAX) != NULL);
   WANT(strcmp(boundary_map_errstr(0), "done") == 0);
 }
@@ -62,10 +67,24 @@ static void lengths(void) {
   WANT(BOUNDARY_MAP_HALF_STEP(BOUNDARY_MAP_GRID_MAX) == BOUNDARY_MAP_SIDE - 1);
 }
 
+/* Tells the six arguments of a call apart, by their places. */
+static size_t six(const uint16_t *a, size_t n, const uint16_t *b, size_t m, const uint16_t *c, size_t k, size_t more) {
+  return a[0] * n * 10000 + b[0] * m * 100 + c[0] * k + more;
+}
+
+static void lent(void) {
+  uint16_t lines[8] = {1}, nodes[2] = {3}, listings[1] = {5};
+  struct boundary_map map = {lines, 8, nodes, 2, listings, 1};
+  struct boundary_map maps[2];
+  maps[1] = map;
+  WANT(six(BOUNDARY_MAP_LENT(&map), 2) == 80607);
+  WANT(six(BOUNDARY_MAP_LENT(maps + 1), 0) == 80605);
+}
+
 static void version(void) {
   char text[32];
-  snprintf(text, sizeof text, "%d.%d.%d", BOUNDARY_MAP_VERSION_NUMBER / 1000000, BOUNDARY_MAP_VERSION_NUMBER / 1000 % 1000,
-           BOUNDARY_MAP_VERSION_NUMBER % 1000);
+  snprintf(text, sizeof text, "%d.%d.%d", BOUNDARY_MAP_VERSION_NUMBER / 65536, BOUNDARY_MAP_VERSION_NUMBER / 256 % 256,
+           BOUNDARY_MAP_VERSION_NUMBER % 256);
   WANT(strcmp(text, BOUNDARY_MAP_VERSION) == 0);
 }
 
@@ -75,6 +94,7 @@ int main(void) {
   handles();
   answers_of_locate();
   lengths();
+  lent();
   version();
   return wrong;
 }

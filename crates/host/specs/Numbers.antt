@@ -1,7 +1,7 @@
 -- What the C host gets: one 64-bit number, and every entry of the lent tables and lists afterwards.
 use mathlib.Core.Path.{_≡_}
 use mathlib.Core.List.{List}
-use Prim.Native.Nat.{ℕ}
+use Prim.Native.Nat.{ℕ, _+_, _*_}
 use Rattle.definitions.specs.Calls.{Reply, numberOf}
 use Rattle.definitions.specs.Lookup.{Located}
 use Rattle.definitions.specs.Tables.{Tables}
@@ -28,3 +28,7 @@ Tells r lines nodes listings y = (record { number = r; after = tables lines node
 
 abbrev pub Answers : ℕ → List ℕ → Located → Type 0
 Answers r answers y = (record { number = r; answers = answers }) ≡ counted y
+
+-- version 0.2.0, as major, minor and patch
+abbrev pub version : ℕ
+version = 0 * 65536 + 2 * 256 + 0

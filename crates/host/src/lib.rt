@@ -1,4 +1,4 @@
-// The C boundary: start, insert, delete and locate on numbers and lent slices. Each gives one 64-bit number.
+// The C boundary: start, insert, delete and locate on numbers and lent slices. Each gives one 64-bit number. And the version.
 use definitions::Answer;
 use definitions::Given;
 ghost use mathlib.Core.Path.{_≡_};
@@ -6,7 +6,7 @@ ghost use Rattle.definitions.specs.Tree.{baseRule};
 ghost use Rattle.definitions.specs.Calls.{numberOf, startOf, insertOf, deleteOf};
 ghost use Rattle.definitions.specs.Lookup.{locateOf};
 ghost use Rattle.map.specs.Promise.{tables};
-ghost use Rattle.host.specs.Numbers.{Tells, Answers};
+ghost use Rattle.host.specs.Numbers.{Tells, Answers, version};
 
 // refusal x 4,294,967,296 + detail
 fn number(a: Answer) -> u64
@@ -85,4 +85,12 @@ pub extern "C" fn boundary_map_locate(
     ensures { λ r. ⌜ Answers r (now (answers .exit)) (locateOf baseRule (tables (now (lines .entry)) (now (nodes .entry)) (now (listings .entry))) (now (points .entry)) (now (answers .entry))) ⌝ }
 {
     number(map::locate(lines, nodes, listings, points, answers))
+}
+
+// what the header compares itself with: they are two files, and link at any two versions
+#[no_mangle]
+pub extern "C" fn boundary_map_version() -> u32
+    ensures { λ r. ⌜ r ≡ version ⌝ }
+{
+    512
 }
