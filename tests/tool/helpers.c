@@ -83,8 +83,8 @@ static void lent(void) {
 
 static void version(void) {
   char text[32];
-  snprintf(text, sizeof text, "%d.%d.%d", BOUNDARY_MAP_VERSION_NUMBER / 65536, BOUNDARY_MAP_VERSION_NUMBER / 256 % 256,
-           BOUNDARY_MAP_VERSION_NUMBER % 256);
+  snprintf(text, sizeof text, "%d.%d.%d", BOUNDARY_MAP_VERSION_NUMBER / 1000000, BOUNDARY_MAP_VERSION_NUMBER / 1000 % 1000,
+           BOUNDARY_MAP_VERSION_NUMBER % 1000);
   WANT(strcmp(text, BOUNDARY_MAP_VERSION) == 0);
 }
 

@@ -31,4 +31,4 @@ Answers r answers y = (record { number = r; answers = answers }) ≡ counted y
 
 -- version 0.2.0, as major, minor and patch
 abbrev pub version : ℕ
-version = 0 * 65536 + 2 * 256 + 0
+version = 0 * 1000000 + 2 * 1000 + 0

@@ -92,5 +92,5 @@ pub extern "C" fn boundary_map_locate(
 pub extern "C" fn boundary_map_version() -> u32
     ensures { λ r. ⌜ r ≡ version ⌝ }
 {
-    512
+    2000
 }
