@@ -1,4 +1,2 @@
 pub mod Promise
 pub mod Steps
-pub mod Soundness
-pub mod Putting

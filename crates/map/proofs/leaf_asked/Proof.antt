@@ -6,7 +6,7 @@ use Rattle.definitions.specs.Tree.{baseRule}
 use mathlib.Core.Path.{_≡_}
 use mathlib.Core.Bool.{true}
 use Rattle.definitions.specs.Tables.{onGrid}
-use Rattle.map.specs.Promise.{Passed}
+use Rattle.tables.specs.Lent.{Passed}
 use Rattle.map.specs.Steps.{show-1, show-2, show-3}
 use Rattle.map.proofs.Shows.{walkable, x-low, y-low, found}
 use borrow.Author.Needs.{needs}
@@ -35,10 +35,10 @@ returns-3 : tie.Need-returns-3
 returns-3 c = show-3 baseRule _ _ _ (sym (c .before .before .before .before .before .before .lengths-fit .ensures) ∙ not-false _ (c .before .before .before .before .before .if1 .left)) (sym (c .before .before .before .before .is-sound .ensures) ∙ not-false _ (c .before .before .before .if2 .left)) (ap₂ _&&_ (sym (c .before .before .on-grid .ensures)) (sym (c .before .on-grid2 .ensures)) ∙ not-true _ (c .if3 .taken))
 
 leaf-of-requires : tie.Need-leaf-of-requires
-leaf-of-requires c κs = let w : Passed (c .before .before .before .before .before .before .before .before .before .before .args .lines .now) (c .before .before .before .before .before .before .before .before .before .before .args .nodes .now) (c .before .before .before .before .before .before .before .before .before .before .args .listings .now) = record { fit = sym (c .before .before .before .before .before .before .lengths-fit .ensures) ∙ not-false _ (c .before .before .before .before .before .if1 .left); ok = sym (c .before .before .before .before .is-sound .ensures) ∙ not-false _ (c .before .before .before .if2 .left) } in let g : (onGrid (c .before .before .before .before .before .before .before .before .before .before .args .x) && onGrid (c .before .before .before .before .before .before .before .before .before .before .args .y)) ≡ true = ap₂ _&&_ (sym (c .before .before .on-grid .ensures)) (sym (c .before .on-grid2 .ensures)) ∙ not-false _ (c .if3 .left) in (walkable w, x-low w (c .before .before .before .before .before .before .before .before .before .before .args .x) (c .before .before .before .before .before .before .before .before .before .before .args .y) g, y-low w (c .before .before .before .before .before .before .before .before .before .before .args .x) (c .before .before .before .before .before .before .before .before .before .before .args .y) g)
+leaf-of-requires c κs = let w : Passed baseRule (c .before .before .before .before .before .before .before .before .before .before .args .lines .now) (c .before .before .before .before .before .before .before .before .before .before .args .nodes .now) (c .before .before .before .before .before .before .before .before .before .before .args .listings .now) = record { fit = sym (c .before .before .before .before .before .before .lengths-fit .ensures) ∙ not-false _ (c .before .before .before .before .before .if1 .left); ok = sym (c .before .before .before .before .is-sound .ensures) ∙ not-false _ (c .before .before .before .if2 .left) } in let g : (onGrid (c .before .before .before .before .before .before .before .before .before .before .args .x) && onGrid (c .before .before .before .before .before .before .before .before .before .before .args .y)) ≡ true = ap₂ _&&_ (sym (c .before .before .on-grid .ensures)) (sym (c .before .on-grid2 .ensures)) ∙ not-false _ (c .if3 .left) in (walkable w, x-low w (c .before .before .before .before .before .before .before .before .before .before .args .x) (c .before .before .before .before .before .before .before .before .before .before .args .y) g, y-low w (c .before .before .before .before .before .before .before .before .before .before .args .x) (c .before .before .before .before .before .before .before .before .before .before .args .y) g)
 
 returns-4 : tie.Need-returns-4
-returns-4 c = let w : Passed (c .before .before .before .before .before .before .before .before .before .before .before .args .lines .now) (c .before .before .before .before .before .before .before .before .before .before .before .args .nodes .now) (c .before .before .before .before .before .before .before .before .before .before .before .args .listings .now) = record { fit = sym (c .before .before .before .before .before .before .before .lengths-fit .ensures) ∙ not-false _ (c .before .before .before .before .before .before .if1 .left); ok = sym (c .before .before .before .before .before .is-sound .ensures) ∙ not-false _ (c .before .before .before .before .if2 .left) } in found w _ _ (ap₂ _&&_ (sym (c .before .before .before .on-grid .ensures)) (sym (c .before .before .on-grid2 .ensures)) ∙ not-false _ (c .before .if3 .left)) (c .leaf-of .ensures)
+returns-4 c = let w : Passed baseRule (c .before .before .before .before .before .before .before .before .before .before .before .args .lines .now) (c .before .before .before .before .before .before .before .before .before .before .before .args .nodes .now) (c .before .before .before .before .before .before .before .before .before .before .before .args .listings .now) = record { fit = sym (c .before .before .before .before .before .before .before .lengths-fit .ensures) ∙ not-false _ (c .before .before .before .before .before .before .if1 .left); ok = sym (c .before .before .before .before .before .is-sound .ensures) ∙ not-false _ (c .before .before .before .before .if2 .left) } in found w _ _ (ap₂ _&&_ (sym (c .before .before .before .on-grid .ensures)) (sym (c .before .before .on-grid2 .ensures)) ∙ not-false _ (c .before .if3 .left)) (c .leaf-of .ensures)
 
 pub leaf-asked-spec : {M : Type 1} → statement M
 leaf-asked-spec =

@@ -1,10 +1,10 @@
--- `map::built_same` meets its contract: the tables built into scratch are those of the live lines, and the leaves' test is that of all pairs.
+-- `soundness::built_same` meets its contract: the tables built into scratch are those of the live lines, and the leaves' test is that of all pairs.
 use mathlib.Core.Path.{sym, _∙_}
 use borrow.Author.Tests.{not-true, not-false}
-use Rattle.map.proofs.Compared.{good, none-fits, nodes-differ, listings-differ, to-try, tried, built-long, named-long}
+use Rattle.soundness.proofs.Compared.{good, none-fits, nodes-differ, listings-differ, to-try, tried, built-long, named-long}
 use borrow.Author.Needs.{needs}
-use Rattle.map.proofs.built_same.Statement.{statement}
-use Rattle.map.proofs.built_same.Tie as tie
+use Rattle.soundness.proofs.built_same.Statement.{statement}
+use Rattle.soundness.proofs.built_same.Tie as tie
 
 build-requires : tie.Need-build-requires
 build-requires c κs = good (c .before .before .before .before .before .before .before .pre)

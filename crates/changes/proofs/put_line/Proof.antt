@@ -1,8 +1,8 @@
 use native.Mathlib.Omega.{arith}
-use Rattle.map.proofs.Puts.{put-good, not-put, put, nodes-long, listings-long}
+use Rattle.changes.proofs.Puts.{put-good, not-put, put, nodes-long, listings-long}
 use borrow.Author.Needs.{needs}
-use Rattle.map.proofs.put_line.Statement.{statement}
-use Rattle.map.proofs.put_line.Tie as tie
+use Rattle.changes.proofs.put_line.Statement.{statement}
+use Rattle.changes.proofs.put_line.Tie as tie
 
 row-at-requires : tie.Need-row-at-requires
 row-at-requires c κs = search needs
@@ -35,10 +35,10 @@ returns : tie.Need-returns
 returns c = not-put (c .before .before .before .before .before .before .before .before .before .before .before .before .before .before .before .before .before .before .before .before .before .before .before .before .before .pre) (c .before .before .before .before .before .before .before .before .before .before .before .before .before .before .before .before .put-row .ensures) (c .before .before .before .before .before .before .before .before .before .before .build .ensures) (c .before .before .before .before .enum-told2 .given .1) (c .before .before .before .before .before .before .before .before .before .before .before .before .before .before .before .before .before .before .row-at .ensures) (c .before .before .put-row2 .ensures)
 
 copy-requires : tie.Need-copy-requires
-copy-requires c κs = omega (arith, nodes-long (c .before .before .before .before .before .before .before .before .before .before .before .before .before .before .before .before .before .before .before .before .before .before .before .args .nodes .now) (c .before .before .before .before .before .before .before .before .before .before .before .before .before .before .before .before .before .before .before .before .before .before .before .args .listings .now) (c .before .before .before .before .before .before .before .before .before .before .before .before .before .before .before .before .before .before .before .before .before .before .before .pre .noNodes) (c .before .before .before .before .before .before .before .before .before .before .before .before .before .before .before .before .before .before .before .before .before .before .before .pre .noListings) (c .before .before .before .before .before .before .before .before .build .ensures) (c .before .before .enum-told .given .1))
+copy-requires c κs = omega (arith, nodes-long (c .before .before .before .before .before .before .before .before .before .before .before .before .before .before .before .before .before .before .before .before .before .before .before .pre .scratch) (c .before .before .before .before .before .before .before .before .build .ensures) (c .before .before .enum-told .given .1))
 
 copy-requires-2 : tie.Need-copy-requires-2
-copy-requires-2 c κs = omega (arith, listings-long (c .before .before .before .before .before .before .before .before .before .before .before .before .before .before .before .before .before .before .before .before .before .before .before .before .before .before .before .before .args .nodes .now) (c .before .before .before .before .before .before .before .before .before .before .before .before .before .before .before .before .before .before .before .before .before .before .before .before .before .before .before .before .args .listings .now) (c .before .before .before .before .before .before .before .before .before .before .before .before .before .before .before .before .before .before .before .before .before .before .before .before .before .before .before .before .pre .noNodes) (c .before .before .before .before .before .before .before .before .before .before .before .before .before .before .before .before .before .before .before .before .before .before .before .before .before .before .before .before .pre .noListings) (c .before .before .before .before .before .before .before .before .before .before .before .before .before .build .ensures) (c .before .before .before .before .before .before .before .enum-told .given .1))
+copy-requires-2 c κs = omega (arith, listings-long (c .before .before .before .before .before .before .before .before .before .before .before .before .before .before .before .before .before .before .before .before .before .before .before .before .before .before .before .before .pre .scratch) (c .before .before .before .before .before .before .before .before .before .before .before .before .before .build .ensures) (c .before .before .before .before .before .before .before .enum-told .given .1))
 
 same-length-4 : tie.Need-same-length-4
 same-length-4 c = search needs

@@ -1,8 +1,8 @@
 use native.Mathlib.Omega.{arith}
-use Rattle.map.proofs.Inserts.{free, slot-low, young, has-place, taken-in, left-out}
+use Rattle.changes.proofs.Inserts.{free, slot-low, young, has-place, taken-in, left-out}
 use borrow.Author.Needs.{needs}
-use Rattle.map.proofs.place.Statement.{statement}
-use Rattle.map.proofs.place.Tie as tie
+use Rattle.changes.proofs.place.Statement.{statement}
+use Rattle.changes.proofs.place.Tie as tie
 
 row-at-requires : tie.Need-row-at-requires
 row-at-requires c κs = free (c .before .before .before .before .pre) .there

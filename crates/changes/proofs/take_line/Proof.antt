@@ -1,8 +1,8 @@
 use native.Mathlib.Omega.{arith}
-use Rattle.map.proofs.Inserts.{freed-good, taken-out}
+use Rattle.changes.proofs.Takes.{freed-good, taken-out}
 use borrow.Author.Needs.{needs}
-use Rattle.map.proofs.take_line.Statement.{statement}
-use Rattle.map.proofs.take_line.Tie as tie
+use Rattle.changes.proofs.take_line.Statement.{statement}
+use Rattle.changes.proofs.take_line.Tie as tie
 
 row-at-requires : tie.Need-row-at-requires
 row-at-requires c κs = search needs

@@ -1,9 +1,9 @@
 use mathlib.Core.Path.{sym, _∙_}
 use Rattle.definitions.specs.Tree.{baseRule}
-use Rattle.map.specs.Soundness.{bad-slots}
+use Rattle.soundness.specs.Soundness.{bad-slots}
 use borrow.Author.Needs.{needs}
-use Rattle.map.proofs.is_sound.Statement.{statement}
-use Rattle.map.proofs.is_sound.Tie as tie
+use Rattle.soundness.proofs.is_sound.Statement.{statement}
+use Rattle.soundness.proofs.is_sound.Tie as tie
 
 slots-sound-requires : tie.Need-slots-sound-requires
 slots-sound-requires c κs = search needs

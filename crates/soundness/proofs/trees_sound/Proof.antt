@@ -1,7 +1,8 @@
-use Rattle.map.proofs.Compared.{nodes-short, listings-short, front-long, compare}
+use Rattle.tables.specs.Lent.{nodes-short, listings-short, front-long}
+use Rattle.soundness.proofs.Compared.{compare}
 use borrow.Author.Needs.{needs}
-use Rattle.map.proofs.trees_sound.Statement.{statement}
-use Rattle.map.proofs.trees_sound.Tie as tie
+use Rattle.soundness.proofs.trees_sound.Statement.{statement}
+use Rattle.soundness.proofs.trees_sound.Tie as tie
 
 array-borrow-prefix-made-nodes : tie.Need-array-borrow-prefix-made-nodes
 array-borrow-prefix-made-nodes c = nodes-short _ _ _ (c .before .before .before .pre .fit)

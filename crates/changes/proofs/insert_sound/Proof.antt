@@ -3,11 +3,11 @@ use native.Mathlib.Omega.{arith}
 use borrow.Author.Tests.{not-true, not-false}
 use Rattle.definitions.specs.Tree.{baseRule}
 use Rattle.tables.specs.Slots.{first-at, first-none}
-use Rattle.map.specs.Steps.{insert-3, insert-4, insert-5, insert-6}
-use Rattle.map.proofs.Inserts.{conflict-low, tested}
+use Rattle.changes.specs.Steps.{insert-3, insert-4, insert-5, insert-6}
+use Rattle.changes.proofs.Inserts.{conflict-low, tested}
 use borrow.Author.Needs.{needs}
-use Rattle.map.proofs.insert_sound.Statement.{statement}
-use Rattle.map.proofs.insert_sound.Tie as tie
+use Rattle.changes.proofs.insert_sound.Statement.{statement}
+use Rattle.changes.proofs.insert_sound.Tie as tie
 
 all-on-grid-requires : tie.Need-all-on-grid-requires
 all-on-grid-requires c κs = search needs

@@ -1,8 +1,8 @@
-use Rattle.map.proofs.Compared.{nodes-short, listings-short, front-long}
-use Rattle.map.proofs.Puts.{scratch}
+use Rattle.tables.specs.Lent.{nodes-short, listings-short, front-long}
+use Rattle.changes.proofs.Puts.{with-scratch}
 use borrow.Author.Needs.{needs}
-use Rattle.map.proofs.put_if_room.Statement.{statement}
-use Rattle.map.proofs.put_if_room.Tie as tie
+use Rattle.changes.proofs.put_if_room.Statement.{statement}
+use Rattle.changes.proofs.put_if_room.Tie as tie
 
 array-borrow-prefix-built : tie.Need-array-borrow-prefix-built
 array-borrow-prefix-built c = nodes-short _ _ _ (c .before .before .before .before .before .before .pre .fit)
@@ -17,7 +17,7 @@ slice-aggregate-put-line-2 : tie.Need-slice-aggregate-put-line-2
 slice-aggregate-put-line-2 c = front-long 16384 _ (listings-short _ _ _ (c .before .before .before .before .before .before .before .before .pre .fit))
 
 put-line-requires : tie.Need-put-line-requires
-put-line-requires c κs = scratch (c .before .before .before .before .before .before .before .before .pre)
+put-line-requires c κs = with-scratch (c .before .before .before .before .before .before .before .before .pre)
 
 same-length : tie.Need-same-length
 same-length c = search needs
