@@ -1,15 +1,15 @@
--- Start, delete, locate and show leaf as walks through their refusals: what each replies where the tests so far came out so.
+-- Start, delete and locate as walks through their refusals: what each replies where the tests so far came out so.
 use mathlib.Core.Path.{_≡_, refl}
 use mathlib.Core.Bool.{true, false, _&&_}
 use mathlib.Core.List.{List}
 use Prim.Native.Nat.{ℕ, _*_, _/_}
 use lib.Dec.{eqb}
 use lib.ListN.{length}
-use Rattle.definitions.specs.declared.Answer.the-variants.{Done, Lengths, Damaged, OffGrid, UnknownHandle}
+use Rattle.definitions.specs.declared.Answer.the-variants.{Done, Lengths, Damaged, UnknownHandle}
 use Rattle.definitions.specs.Tree.{Rule}
-use Rattle.definitions.specs.Tables.{Tables, lengthsFit, sound, onGrid}
+use Rattle.definitions.specs.Tables.{Tables, lengthsFit, sound}
 use Rattle.definitions.specs.Calls.{reply, cleared, startOf, known, freed, rebuilt, deleteOf}
-use Rattle.definitions.specs.Lookup.{answersTo, locateOf, notShown, shownAt, leafOver, showOf}
+use Rattle.definitions.specs.Lookup.{answersTo, locateOf}
 
 pub start-1 : (t : Tables) → lengthsFit t ≡ false → startOf t ≡ reply Lengths t
 unfolding startOf
@@ -52,22 +52,3 @@ module _ (rule : Rule) (t : Tables) where
       pub locate-0 : sound rule t ≡ true → locateOf rule t points answers ≡ record { answer = Done 0; answers = answersTo (t .lines) points }
       unfolding locateOf
       locate-0 e = rw (fit, e) refl
-
-  module _ (x y : ℕ) where
-    pub show-1 : lengthsFit t ≡ false → showOf rule t x y ≡ notShown Lengths
-    unfolding showOf
-    show-1 e = rw e refl
-
-    module _ (fit : lengthsFit t ≡ true) where
-      pub show-2 : sound rule t ≡ false → showOf rule t x y ≡ notShown Damaged
-      unfolding showOf
-      show-2 e = rw (fit, e) refl
-
-      module _ (ok : sound rule t ≡ true) where
-        pub show-3 : (onGrid x && onGrid y) ≡ false → showOf rule t x y ≡ notShown OffGrid
-        unfolding showOf
-        show-3 e = rw (fit, ok, e) refl
-
-        pub show-0 : (onGrid x && onGrid y) ≡ true → showOf rule t x y ≡ shownAt (leafOver rule t x y) (t .listings)
-        unfolding showOf
-        show-0 e = rw (fit, ok, e) refl

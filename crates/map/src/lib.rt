@@ -5,26 +5,20 @@ use definitions::Answer;
 use definitions::Given;
 use definitions::Half;
 use definitions::Shown;
-use geometry::on_grid;
-use geometry::point_of;
 use lookup::answer_all;
+use showing::Asked;
+use showing::leaf_asked;
 use soundness::is_sound;
 use tables::clear;
 use tables::known;
 use tables::lengths_fit;
 use tables::slot_of;
-use walk::Leaf;
-use walk::index_nodes;
-use walk::leaf_over;
 ghost use mathlib.Core.Path.{_≡_};
-ghost use Prim.Native.Nat.{_≤_};
-ghost use Rattle.definitions.specs.Shape.{gridPoint};
-ghost use Rattle.definitions.specs.Tree.{Tree, baseRule};
+ghost use Rattle.definitions.specs.Tree.{baseRule};
 ghost use Rattle.definitions.specs.Calls.{startOf, insertOf, deleteOf};
 ghost use Rattle.definitions.specs.Lookup.{locateOf, showOf};
 ghost use Rattle.tables.specs.Lent.{tables, Replies, Locates};
-ghost use Rattle.walk.specs.Index.{Standing, Walkable, LeafOver};
-ghost use Rattle.map.specs.Promise.{AskedIs, HandsBack};
+ghost use Rattle.map.specs.Promise.{HandsBack};
 
 pub fn start(lines: &mut [u16], nodes: &mut [u16], listings: &mut [u16]) -> Answer
     ensures { λ r. ⌜ Replies r (now (lines .exit)) (now (nodes .exit)) (now (listings .exit)) (startOf (tables (now (lines .entry)) (now (nodes .entry)) (now (listings .entry)))) ⌝ }
@@ -89,36 +83,6 @@ pub fn locate(
     }
     answer_all(lines, nodes, listings, points, answers);
     Answer::Done(0)
-}
-
-// The leaf that show leaf is about, or its refusal.
-pub enum Asked {
-    Refused(Answer),
-    Shows(Leaf),
-}
-
-fn leaf_of(nodes: &[u16], x: u16, y: u16) -> Leaf
-    requires { ⌜ Walkable (now nodes) 65536 0 0 × (x ≤ 16383) × (y ≤ 16383) ⌝ }
-    ensures { λ r. ⌜ ((t : Tree) → Standing (now (nodes .entry)) t 0 0 → LeafOver (gridPoint x y) t r) ⌝ }
-{
-    let mut index = [0u16; 65536];
-    index_nodes(nodes, &mut index);
-    leaf_over(nodes, &index, point_of(x, y))
-}
-
-fn leaf_asked(lines: &[u16], nodes: &[u16], listings: &[u16], x: u16, y: u16) -> Asked
-    ensures { λ r. ⌜ AskedIs baseRule (tables (now (lines .entry)) (now (nodes .entry)) (now (listings .entry))) x y r ⌝ }
-{
-    if !lengths_fit(lines, nodes, listings) {
-        return Asked::Refused(Answer::Lengths);
-    }
-    if !is_sound(lines, nodes, listings) {
-        return Asked::Refused(Answer::Damaged);
-    }
-    if !(on_grid(x) & on_grid(y)) {
-        return Asked::Refused(Answer::OffGrid);
-    }
-    Asked::Shows(leaf_of(nodes, x, y))
 }
 
 // Show leaf: the numbers.

@@ -2,10 +2,10 @@ use mathlib.Core.Path.{subst}
 use native.Mathlib.Omega.{arith}
 use Rattle.definitions.specs.declared.Point.{Point}
 use Rattle.walk.specs.Index.{LeafOver}
-use Rattle.map.proofs.Shows.{searchable}
+use Rattle.showing.proofs.Finds.{searchable}
 use borrow.Author.Needs.{needs}
-use Rattle.map.proofs.leaf_of.Statement.{statement}
-use Rattle.map.proofs.leaf_of.Tie as tie
+use Rattle.showing.proofs.leaf_of.Statement.{statement}
+use Rattle.showing.proofs.leaf_of.Tie as tie
 
 slice-aggregate-index-nodes : tie.Need-slice-aggregate-index-nodes
 slice-aggregate-index-nodes c = search needs

@@ -1,17 +1,14 @@
-use mathlib.Core.Path.{sym, ap₂, _∙_}
-use mathlib.Core.Bool.{_&&_}
-use native.Mathlib.Omega.{arith}
+use mathlib.Core.Path.{_≡_, sym, ap₂, _∙_}
+use mathlib.Core.Bool.{true, _&&_}
 use borrow.Author.Tests.{not-true, not-false}
 use Rattle.definitions.specs.Tree.{baseRule}
-use mathlib.Core.Path.{_≡_}
-use mathlib.Core.Bool.{true}
 use Rattle.definitions.specs.Tables.{onGrid}
 use Rattle.tables.specs.Lent.{Passed}
-use Rattle.map.specs.Steps.{show-1, show-2, show-3}
-use Rattle.map.proofs.Shows.{walkable, x-low, y-low, found}
+use Rattle.showing.specs.Steps.{show-1, show-2, show-3}
+use Rattle.showing.proofs.Finds.{walkable, x-low, y-low, found}
 use borrow.Author.Needs.{needs}
-use Rattle.map.proofs.leaf_asked.Statement.{statement}
-use Rattle.map.proofs.leaf_asked.Tie as tie
+use Rattle.showing.proofs.leaf_asked.Statement.{statement}
+use Rattle.showing.proofs.leaf_asked.Tie as tie
 
 lengths-fit-requires : tie.Need-lengths-fit-requires
 lengths-fit-requires c κs = search needs
