@@ -5,19 +5,16 @@ use mathlib.Core.List.{List}
 use Prim.Native.Nat.{ℕ, _≤_}
 use native.Mathlib.Omega.{arith}
 use lib.ListN.{length, take, replicate}
-use lib.Dec.{leb}
-use borrow.Author.Tests.{leb-true}
 use Rattle.algebra.specs.Words.{over}
-use Rattle.algebra.specs.Tests.{and-l, and-r}
-use Rattle.algebra.specs.Lists.{padded-length, over-all}
-use Rattle.definitions.specs.Tree.{baseRule, tree, nodesOf, listingsOf}
-use Rattle.definitions.specs.Tables.{Tables, liveLines, nodeTable, listingTable}
+use Rattle.algebra.specs.Lists.{over-all}
+use Rattle.definitions.specs.Tree.{baseRule}
+use Rattle.definitions.specs.Tables.{Tables, nodeTable, listingTable}
 use Rattle.definitions.specs.Calls.{withSlot, rebuilt, roomFor}
 use Rattle.meaning.specs.Slots.{same-length}
 use Rattle.tables.specs.declared.Place.{Place}
 use Rattle.tables.specs.declared.Row.{Row}
 use Rattle.tables.specs.Rows.{rowAt, entriesOf}
-use Rattle.tables.specs.Lent.{tables, Scratch, as-many, as-listed, lines-short, fronts}
+use Rattle.tables.specs.Lent.{tables, as-many, as-listed, lines-short, fronts}
 use Rattle.tree.specs.declared.Built.{Built}
 use Rattle.tree.specs.declared.Built.the-variants.{Next, NoRoom}
 use Rattle.tree.specs.Builds.{GoodTable, TreeBuilt}
@@ -28,32 +25,6 @@ use Rattle.changes.specs.Restoring.{back-again}
 eight : (r : Row) → length (entriesOf r) ≡ 8
 unfolding entriesOf
 eight r = refl
-
--- ---- a tree built into scratch as long as the lent tables
-module _ {nodes listings lines built named built′ named′ : List ℕ} {r : Built} (s : Scratch nodes listings built named) (b : TreeBuilt lines built named built′ named′ r) where
-  abbrev lent : Tables
-  lent = tables lines nodes listings
-
-  module _ {p : Place} (e : r ≡ Next p) where
-    abbrev made : TablesAre lines (length nodes) (length listings) built′ named′
-    made = tables-are b e (length nodes) (length listings) (s .noNodes) (s .noListings)
-
-    room : roomFor baseRule lent lines ≡ true
-    room = has-room b lent (as-many s) (as-listed s) e
-
-    pub nodes-long : length built′ ≡ length nodes
-    unfolding nodeTable
-    nodes-long = ap length (made .nodes-are) ∙ padded-length (length nodes) _ fits
-      where
-        fits : length (nodesOf (tree baseRule (liveLines lines))) ≤ length nodes
-        fits = unfold roomFor in leb-true _ _ (and-l _ (leb (length (listingsOf (tree baseRule (liveLines lines)))) (length listings)) room)
-
-    pub listings-long : length named′ ≡ length listings
-    unfolding listingTable
-    listings-long = ap length (made .listings-are) ∙ padded-length (length listings) _ fits
-      where
-        fits : length (listingsOf (tree baseRule (liveLines lines))) ≤ length listings
-        fits = unfold roomFor in leb-true _ _ (and-r (leb (length (nodesOf (tree baseRule (liveLines lines)))) (length nodes)) _ room)
 
 -- ---- put
 module _ {lines nodes listings built named : List ℕ} {slot : ℕ} {row : Row} (w : Putting lines nodes listings slot row built named) where
@@ -83,9 +54,10 @@ module _ {lines nodes listings built named : List ℕ} {slot : ℕ} {row : Row} 
               ∙ back-again lines (entriesOf row) slot (eight row) (w .room .there)
 
       module _ {p : Place} (e : r ≡ Next p) where
-        pub put : {nodes′ listings′ : List ℕ} → nodes′ ≡ over 0 built′ nodes → listings′ ≡ over 0 named′ listings → Put baseRule before new (tables lines₁ nodes′ listings′) true
+        pub put : length built′ ≡ length nodes → length named′ ≡ length listings → {nodes′ listings′ : List ℕ} → nodes′ ≡ over 0 built′ nodes → listings′ ≡ over 0 named′ listings
+            → Put baseRule before new (tables lines₁ nodes′ listings′) true
         unfolding rebuilt
-        put {nodes′} {listings′} f g = (
+        put n m {nodes′} {listings′} f g = (
           subst (λ (z : List ℕ). roomFor baseRule before z ≡ true) is (has-room b before (as-many (w .scratch)) (as-listed (w .scratch)) e),
           λ i. tables (is i) (nodes-are i) (listings-are i),
         )
@@ -94,10 +66,10 @@ module _ {lines nodes listings built named : List ℕ} {slot : ℕ} {row : Row} 
             t = tables-are b e (length nodes) (length listings) (w .scratch .noNodes) (w .scratch .noListings)
 
             nodes-are : nodes′ ≡ nodeTable baseRule (length nodes) new
-            nodes-are = f ∙ over-all built′ nodes (nodes-long (w .scratch) b e) ∙ t .nodes-are ∙ ap (nodeTable baseRule (length nodes)) is
+            nodes-are = f ∙ over-all built′ nodes n ∙ t .nodes-are ∙ ap (nodeTable baseRule (length nodes)) is
 
             listings-are : listings′ ≡ listingTable baseRule (length listings) new
-            listings-are = g ∙ over-all named′ listings (listings-long (w .scratch) b e) ∙ t .listings-are ∙ ap (listingTable baseRule (length listings)) is
+            listings-are = g ∙ over-all named′ listings m ∙ t .listings-are ∙ ap (listingTable baseRule (length listings)) is
 
 -- ---- scratch
 pub with-scratch : {lines nodes listings : List ℕ} {slot : ℕ} {row : Row} → Room lines nodes listings slot row

@@ -2,16 +2,12 @@
 use mathlib.Core.Path.{_≡_, refl, sym, ap, _∙_}
 use mathlib.Core.Bool.{Bool, true, false, not}
 use mathlib.Core.List.{List}
-use Prim.Native.Nat.{ℕ, _≤_}
-use lib.Dec.{leb}
+use Prim.Native.Nat.{ℕ}
 use lib.ListN.{length, take, replicate}
-use borrow.Author.Tests.{leb-true}
 use Rattle.algebra.specs.Words.{sameList}
-use Rattle.algebra.specs.Tests.{and-l, and-r}
-use Rattle.algebra.specs.Lists.{list-same, padded-length}
-use Rattle.definitions.specs.Tree.{baseRule, tree, nodesOf, listingsOf}
-use Rattle.definitions.specs.Calls.{roomFor}
-use Rattle.definitions.specs.Tables.{sound, noneConflict, liveLines, nodeTable, listingTable}
+use Rattle.algebra.specs.Lists.{list-same}
+use Rattle.definitions.specs.Tree.{baseRule}
+use Rattle.definitions.specs.Tables.{sound, noneConflict}
 use Rattle.tables.specs.declared.Place.{Place}
 use Rattle.tables.specs.Lent.{tables, as-many, as-listed, lines-short, listings-short, fronts}
 use Rattle.tree.specs.declared.Built.{Built}
@@ -37,20 +33,6 @@ module _ {lines nodes listings built named : List ℕ} (w : Comparing lines node
     module _ {p : Place} (e : r ≡ Next p) where
       abbrev made : TablesAre lines (length nodes) (length listings) built′ named′
       made = tables-are b e (length nodes) (length listings) (w .scratch .noNodes) (w .scratch .noListings)
-
-      pub built-long : length nodes ≡ length built′
-      unfolding nodeTable
-      built-long = sym (ap length (made .nodes-are) ∙ padded-length (length nodes) _ fits)
-        where
-          fits : length (nodesOf (tree baseRule (liveLines lines))) ≤ length nodes
-          fits = unfold roomFor in leb-true _ _ (and-l _ (leb (length (listingsOf (tree baseRule (liveLines lines)))) (length listings)) (whole.has-room b (tables lines nodes listings) (as-many (w .scratch)) (as-listed (w .scratch)) e))
-
-      pub named-long : length listings ≡ length named′
-      unfolding listingTable
-      named-long = sym (ap length (made .listings-are) ∙ padded-length (length listings) _ fits)
-        where
-          fits : length (listingsOf (tree baseRule (liveLines lines))) ≤ length listings
-          fits = unfold roomFor in leb-true _ _ (and-r (leb (length (nodesOf (tree baseRule (liveLines lines)))) (length nodes)) _ (whole.has-room b (tables lines nodes listings) (as-many (w .scratch)) (as-listed (w .scratch)) e))
 
       pub nodes-differ : sameList nodes built′ ≡ false → false ≡ sound baseRule (tables lines nodes listings)
       nodes-differ d = sym (other-nodes baseRule (tables lines nodes listings) (sym (ap (sameList nodes) (made .nodes-are)) ∙ d))

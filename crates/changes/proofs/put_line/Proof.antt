@@ -1,5 +1,6 @@
 use native.Mathlib.Omega.{arith}
-use Rattle.changes.proofs.Puts.{put-good, not-put, put, nodes-long, listings-long}
+use Rattle.tables.specs.Lent.{as-many, as-listed}
+use Rattle.changes.proofs.Puts.{put-good, not-put, put}
 use borrow.Author.Needs.{needs}
 use Rattle.changes.proofs.put_line.Statement.{statement}
 use Rattle.changes.proofs.put_line.Tie as tie
@@ -35,10 +36,10 @@ returns : tie.Need-returns
 returns c = not-put (c .before .before .before .before .before .before .before .before .before .before .before .before .before .before .before .before .before .before .before .before .before .before .before .before .before .pre) (c .before .before .before .before .before .before .before .before .before .before .before .before .before .before .before .before .put-row .ensures) (c .before .before .before .before .before .before .before .before .before .before .build .ensures) (c .before .before .before .before .enum-told2 .given .1) (c .before .before .before .before .before .before .before .before .before .before .before .before .before .before .before .before .before .before .row-at .ensures) (c .before .before .put-row2 .ensures)
 
 copy-requires : tie.Need-copy-requires
-copy-requires c κs = omega (arith, nodes-long (c .before .before .before .before .before .before .before .before .before .before .before .before .before .before .before .before .before .before .before .before .before .before .before .pre .scratch) (c .before .before .before .before .before .before .before .before .build .ensures) (c .before .before .enum-told .given .1))
+copy-requires c κs = omega (arith, as-many (c .before .before .before .before .before .before .before .before .before .before .before .before .before .before .before .before .before .before .before .before .before .before .before .pre .scratch))
 
 copy-requires-2 : tie.Need-copy-requires-2
-copy-requires-2 c κs = omega (arith, listings-long (c .before .before .before .before .before .before .before .before .before .before .before .before .before .before .before .before .before .before .before .before .before .before .before .before .before .before .before .before .pre .scratch) (c .before .before .before .before .before .before .before .before .before .before .before .before .before .build .ensures) (c .before .before .before .before .before .before .before .enum-told .given .1))
+copy-requires-2 c κs = omega (arith, as-listed (c .before .before .before .before .before .before .before .before .before .before .before .before .before .before .before .before .before .before .before .before .before .before .before .before .before .before .before .before .pre .scratch))
 
 same-length-4 : tie.Need-same-length-4
 same-length-4 c = search needs
@@ -56,7 +57,7 @@ same-length-8 : tie.Need-same-length-8
 same-length-8 c = search needs
 
 returns-2 : tie.Need-returns-2
-returns-2 c = put (c .before .before .before .before .before .before .before .before .before .before .before .before .before .before .before .before .before .before .before .before .before .before .before .before .before .before .before .before .before .before .before .pre) (c .before .before .before .before .before .before .before .before .before .before .before .before .before .before .before .before .before .before .before .before .before .before .put-row .ensures) (c .before .before .before .before .before .before .before .before .before .before .before .before .before .before .before .before .build .ensures) (c .before .before .before .before .before .before .before .before .before .before .enum-told .given .1) (c .before .before .before .before .before .before .before .copy .ensures) (c .before .before .copy2 .ensures)
+returns-2 c = let w = c .before .before .before .before .before .before .before .before .before .before .before .before .before .before .before .before .before .before .before .before .before .before .before .before .before .before .before .before .before .before .before .pre in put w (c .before .before .before .before .before .before .before .before .before .before .before .before .before .before .before .before .before .before .before .before .before .before .put-row .ensures) (c .before .before .before .before .before .before .before .before .before .before .before .before .before .before .before .before .build .ensures) (c .before .before .before .before .before .before .before .before .before .before .enum-told .given .1) (omega (arith, as-many (w .scratch))) (omega (arith, as-listed (w .scratch))) (c .before .before .before .before .before .before .before .copy .ensures) (c .before .before .copy2 .ensures)
 
 pub put-line-spec : {M : Type 1} → statement M
 put-line-spec =

@@ -1,4 +1,3 @@
-use native.Mathlib.Omega.{arith}
 use Rattle.changes.proofs.Takes.{freed-good, taken-out}
 use borrow.Author.Needs.{needs}
 use Rattle.changes.proofs.take_line.Statement.{statement}

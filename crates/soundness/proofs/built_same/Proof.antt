@@ -1,7 +1,9 @@
 -- `soundness::built_same` meets its contract: the tables built into scratch are those of the live lines, and the leaves' test is that of all pairs.
 use mathlib.Core.Path.{sym, _∙_}
+use native.Mathlib.Omega.{arith}
 use borrow.Author.Tests.{not-true, not-false}
-use Rattle.soundness.proofs.Compared.{good, none-fits, nodes-differ, listings-differ, to-try, tried, built-long, named-long}
+use Rattle.tables.specs.Lent.{as-many, as-listed}
+use Rattle.soundness.proofs.Compared.{good, none-fits, nodes-differ, listings-differ, to-try, tried}
 use borrow.Author.Needs.{needs}
 use Rattle.soundness.proofs.built_same.Statement.{statement}
 use Rattle.soundness.proofs.built_same.Tie as tie
@@ -25,7 +27,7 @@ returns : tie.Need-returns
 returns c = let b = c .before .before .before .before .before .before in none-fits (b .before .before .before .before .before .before .before .before .pre) (b .build .ensures) (c .enum-told .given .1)
 
 same-requires : tie.Need-same-requires
-same-requires c κs = let e = c .before .before in let b = e .before .before .before .before .before .before in let w = b .before .before .before .before .before .before .before .before .pre in built-long w (b .build .ensures) (e .end .given .1)
+same-requires c κs = let e = c .before .before in let b = e .before .before .before .before .before .before in let w = b .before .before .before .before .before .before .before .before .pre in omega (arith, as-many (w .scratch))
 
 same-length-3 : tie.Need-same-length-3
 same-length-3 c = search needs
@@ -37,7 +39,7 @@ returns-2 : tie.Need-returns-2
 returns-2 c = let e = c .before .before .before .before in let b = e .before .before .before .before .before .before in let w = b .before .before .before .before .before .before .before .before .pre in nodes-differ w (b .build .ensures) (e .end .given .1) (sym (c .before .same .ensures) ∙ not-true _ (c .if1 .taken))
 
 same-requires-2 : tie.Need-same-requires-2
-same-requires-2 c κs = let e = c .before .before .before .before .before in let b = e .before .before .before .before .before .before in let w = b .before .before .before .before .before .before .before .before .pre in named-long w (b .build .ensures) (e .end .given .1)
+same-requires-2 c κs = let e = c .before .before .before .before .before in let b = e .before .before .before .before .before .before in let w = b .before .before .before .before .before .before .before .before .pre in omega (arith, as-listed (w .scratch))
 
 same-length-5 : tie.Need-same-length-5
 same-length-5 c = search needs
