@@ -6,7 +6,8 @@ use denote.Ref.{now}
 use Rattle.definitions.specs.Calls.{startOf, insertOf, deleteOf}
 use Rattle.definitions.specs.Lookup.{locateOf, showOf}
 use Rattle.definitions.specs.Tree.{baseRule}
-use Rattle.map.specs.Promise.{tables, Replies, Locates, HandsBack}
+use Rattle.tables.specs.Lent.{tables, Replies, Locates}
+use Rattle.map.specs.Promise.{HandsBack}
 use Rattle.host.specs.Numbers.{Tells, Answers}
 use Rattle.map.proofs.start.Reads as start
 use Rattle.map.proofs.insert.Reads as insert
@@ -18,6 +19,7 @@ use Rattle.host.proofs.boundary_map_start.Reads as c-start
 use Rattle.host.proofs.boundary_map_insert.Reads as c-insert
 use Rattle.host.proofs.boundary_map_delete.Reads as c-delete
 use Rattle.host.proofs.boundary_map_locate.Reads as c-locate
+use Rattle.host.proofs.boundary_map_version.Reads as c-version
 
 -- ---- Nothing is asked
 
@@ -50,6 +52,9 @@ c-delete-asks = refl
 
 c-locate-asks : c-locate.Asked ≡ λ κs a. Unit {0}
 c-locate-asks = refl
+
+c-version-asks : c-version.Asked ≡ λ κs a. Unit {0}
+c-version-asks = refl
 
 -- ---- What map owes
 
@@ -86,3 +91,6 @@ c-delete-owes = refl
 
 c-locate-owes : c-locate.Post ≡ λ κs a r e. Answers r (now (e .1 .1 .1 .1 .0)) (locateOf baseRule (tables (now (a .0)) (now (a .1 .0)) (now (a .1 .1 .0))) (now (a .1 .1 .1 .0)) (now (a .1 .1 .1 .1 .0)))
 c-locate-owes = refl
+
+c-version-owes : c-version.Post ≡ λ κs a r e. r ≡ 2000
+c-version-owes = refl

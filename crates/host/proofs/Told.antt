@@ -7,7 +7,7 @@ use Rattle.definitions.specs.declared.Answer.{Answer}
 use Rattle.definitions.specs.declared.Answer.the-variants.{Done}
 use Rattle.definitions.specs.Calls.{Reply, numberOf}
 use Rattle.definitions.specs.Lookup.{Located}
-use Rattle.map.specs.Promise.{tables, Replies, Locates}
+use Rattle.tables.specs.Lent.{tables, Replies, Locates}
 use Rattle.host.specs.Numbers.{Tells, Answers, numbered, counted}
 
 pub tells : {a : Answer} {n : ℕ} {l m s : List ℕ} {y : Reply} → n ≡ numberOf a → Replies a l m s y → Tells n l m s y

@@ -5,7 +5,7 @@ use Prim.Native.Nat.{ℕ, _+_, _*_}
 use Rattle.definitions.specs.Calls.{Reply, numberOf}
 use Rattle.definitions.specs.Lookup.{Located}
 use Rattle.definitions.specs.Tables.{Tables}
-use Rattle.map.specs.Promise.{tables}
+use Rattle.tables.specs.Lent.{tables}
 
 -- the number, and the three tables
 pub record Numbered : Type 0 where

@@ -5,7 +5,7 @@ ghost use mathlib.Core.Path.{_≡_};
 ghost use Rattle.definitions.specs.Tree.{baseRule};
 ghost use Rattle.definitions.specs.Calls.{numberOf, startOf, insertOf, deleteOf};
 ghost use Rattle.definitions.specs.Lookup.{locateOf};
-ghost use Rattle.map.specs.Promise.{tables};
+ghost use Rattle.tables.specs.Lent.{tables};
 ghost use Rattle.host.specs.Numbers.{Tells, Answers, version};
 
 // refusal x 4,294,967,296 + detail

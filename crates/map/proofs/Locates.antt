@@ -11,7 +11,7 @@ use Rattle.algebra.specs.Tests.{no-path, false-by, both→, both←}
 use Rattle.definitions.specs.declared.Answer.the-variants.{Done}
 use Rattle.definitions.specs.Lookup.{Located}
 use Rattle.definitions.specs.Tables.{Tables, lengthsFit}
-use Rattle.map.specs.Promise.{Locates}
+use Rattle.tables.specs.Lent.{Locates}
 
 module _ (t : Tables) (points answers : List ℕ) where
   pub short : lengthsFit t ≡ false → (lengthsFit t && eqb (length points) (2 * length answers)) ≡ false

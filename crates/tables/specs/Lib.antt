@@ -1,3 +1,4 @@
 pub mod Rows
 pub mod Slots
 pub mod Sound
+pub mod Lent

@@ -1,9 +1,9 @@
 use mathlib.Core.Path.{sym, _∙_}
-use native.Mathlib.Omega.{arith}
 use borrow.Author.Tests.{not-true, not-false}
 use Rattle.definitions.specs.Tree.{baseRule}
 use Rattle.map.specs.Steps.{delete-1, delete-2, delete-8}
-use Rattle.map.proofs.Inserts.{to-take, deleted}
+use Rattle.changes.specs.Changing.{to-take}
+use Rattle.map.proofs.Ends.{deleted}
 use borrow.Author.Needs.{needs}
 use Rattle.map.proofs.delete.Statement.{statement}
 use Rattle.map.proofs.delete.Tie as tie

@@ -1,8 +1,7 @@
 use mathlib.Core.Path.{sym, _∙_}
-use native.Mathlib.Omega.{arith}
 use borrow.Author.Tests.{not-true, not-false}
 use Rattle.definitions.specs.Tree.{baseRule}
-use Rattle.map.specs.Steps.{insert-1, insert-2}
+use Rattle.changes.specs.Steps.{insert-1, insert-2}
 use borrow.Author.Needs.{needs}
 use Rattle.map.proofs.insert.Statement.{statement}
 use Rattle.map.proofs.insert.Tie as tie

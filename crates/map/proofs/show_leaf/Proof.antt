@@ -13,10 +13,10 @@ enum-known-leaf : tie.Need-enum-known-leaf
 enum-known-leaf c = search needs
 
 returns : tie.Need-returns
-returns c = refused-told _ _ _ (c .before .before .before .leaf-asked .ensures) (c .before .answer .given .1)
+returns c = refused-told _ _ _ _ (c .before .before .before .leaf-asked .ensures) (c .before .answer .given .1)
 
 returns-2 : tie.Need-returns-2
-returns-2 c = shows-told _ _ _ (c .before .before .before .before .before .leaf-asked .ensures) (c .before .before .before .leaf .given .1)
+returns-2 c = shows-told _ _ _ _ (c .before .before .before .before .before .leaf-asked .ensures) (c .before .before .before .leaf .given .1)
 
 pub show-leaf-spec : {M : Type 1} → statement M
 show-leaf-spec =

@@ -23,13 +23,13 @@ part-result-end : tie.Need-part-result-end
 part-result-end c = search needs
 
 returns : tie.Need-returns
-returns c = let e = c .before .before .before .leaf-asked .ensures in let q = c .before .enum-told .given .1 in (refused-part _ _ _ e q, placed-at _ _ (refused-first _ _ _ e q))
+returns c = let e = c .before .before .before .leaf-asked .ensures in let q = c .before .enum-told .given .1 in (refused-part _ _ _ _ e q, placed-at _ _ (refused-first _ _ _ _ e q))
 
 add-end : tie.Need-add-end
-add-end c = record { fits = omega (arith, part-fits _ _ _ (c .before .before .before .before .leaf-asked .ensures) (c .before .before .leaf .given .1)) }
+add-end c = record { fits = omega (arith, part-fits _ _ _ _ (c .before .before .before .before .leaf-asked .ensures) (c .before .before .leaf .given .1)) }
 
 mul-result : tie.Need-mul-result
-mul-result c = record { fits = omega (arith, part-fits _ _ _ (c .before .before .before .before .leaf-asked .ensures) (c .before .before .leaf .given .1)) }
+mul-result c = record { fits = omega (arith, part-fits _ _ _ _ (c .before .before .before .before .leaf-asked .ensures) (c .before .before .leaf .given .1)) }
 
 sub-result-2 : tie.Need-sub-result-2
 sub-result-2 c = search needs
@@ -38,10 +38,10 @@ part-result-start-2 : tie.Need-part-result-start-2
 part-result-start-2 c = search needs
 
 part-result-end-2 : tie.Need-part-result-end-2
-part-result-end-2 c = omega (arith, part-fits _ _ _ (c .before .before .before .before .leaf-asked .ensures) (c .before .before .leaf .given .1))
+part-result-end-2 c = omega (arith, part-fits _ _ _ _ (c .before .before .before .before .leaf-asked .ensures) (c .before .before .leaf .given .1))
 
 returns-2 : tie.Need-returns-2
-returns-2 c = let e = c .before .before .before .before .before .leaf-asked .ensures in let q = c .before .before .before .leaf .given .1 in (shows-part _ _ _ e q, placed-at _ _ (shows-first _ _ _ e q))
+returns-2 c = let e = c .before .before .before .before .before .leaf-asked .ensures in let q = c .before .before .before .leaf .given .1 in (shows-part _ _ _ _ e q, placed-at _ _ (shows-first _ _ _ _ e q))
 
 pub show-part-spec : {M : Type 1} → statement M
 show-part-spec =
