@@ -3,8 +3,9 @@ use mathlib.Core.Path.{_≡_}
 use mathlib.Core.Bool.{Bool, true, false}
 use mathlib.Core.List.{List, [], _++_, List·Memᴰ}
 use Prim.Native.Nat.{ℕ, suc, _+_, _*_, _/_, _^_, _≤_, _<_}
+use lib.Dec.{ltb}
 use lib.ListN.{length, getD}
-use Rattle.algebra.specs.Words.{those, every}
+use Rattle.algebra.specs.Words.{those, every, if_then_else_}
 use Rattle.definitions.specs.declared.Point.{Point}
 use Rattle.definitions.specs.Shape.{Block, nwOf, neOf, swOf, seOf, east, north, on}
 use Rattle.definitions.specs.Tree.{Rule, Tree, tree, treeBy, listed, listingsOf}
@@ -62,6 +63,11 @@ pub record NoneOn (lines : List ℕ) (p : Point) (c : Found) (slots : List ℕ) 
 abbrev pub ScanIs : List ℕ → Point → Found → List ℕ → Scan → Type 0
 ScanIs lines p c slots (On s) = firstOn lines p slots ≡ At s
 ScanIs lines p c slots (Best d) = NoneOn lines p c slots d
+
+-- ---- What walks are paid with
+
+abbrev pub smaller : ℕ → ℕ → ℕ
+smaller a b = if ltb a b then a else b
 
 -- ---- A plain search
 

@@ -29,14 +29,17 @@ ghost use Rattle.definitions.specs.Lookup.{answerAt, answerTo, answersTo};
 ghost use Rattle.definitions.specs.Shape.{wholeMap};
 ghost use Rattle.geometry.specs.Means.{blockOf};
 ghost use Rattle.meaning.specs.Column.{labelOf};
-ghost use Rattle.lookup.specs.Asked.{Compared, upperOf, UnderSome, Scannable, ScanIs, Plain, StripOver, SonEntry, Entered, GoneIn, Walking, GoneDown, TakenUp, LeafOver, WalkIs, AtLeaf, Mapped, Ready, OnGrid};
+ghost use Rattle.lookup.specs.Asked.{Compared, upperOf, UnderSome, Scannable, ScanIs, Plain, StripOver, SonEntry, Entered, GoneIn, Walking, GoneDown, TakenUp, LeafOver, WalkIs, AtLeaf, Mapped, Ready, OnGrid, smaller};
 
-// Walks are paid for, so that no list of points takes more than about a quarter longer than plain searches would: a walk
-// costs START to begin with and 1 for each leaf, about the time that a plain search takes over 8 lines. A point brings an
-// eighth of the live lines if its walk answers, and a quarter of that if a plain search has to. At most MOST is kept.
-const START: usize = 4;
+// Walks are paid for, so that no list of points takes more than about a third longer than plain searches of all live lines would.
+// One is paid for about the time that a plain search takes over 2 lines: a walk costs START to begin with, LEAF for each leaf and
+// 1 for each line of a leaf. A point brings half the live lines if its walk answers, an eighth if a plain search has to. At most
+// MOST is kept.
+const START: usize = 16;
 
-const MOST: usize = 64;
+const LEAF: usize = 4;
+
+const MOST: usize = 512;
 
 // What a scan of slots finds: the first line through the point; or, where there is none, the best line below.
 enum Scan {
@@ -153,7 +156,9 @@ fn search_all(lines: &[u16], live: &[u16], p: Point) -> u32
 }
 
 // What is left for the next walk.
-fn earn(left: usize, more: usize) -> usize {
+fn earn(left: usize, more: usize) -> usize
+    ensures { λ r. ⌜ r ≡ smaller (left + more) 512 ⌝ }
+{
     if left < MOST {
         if more < MOST - left {
             return left + more;
@@ -167,7 +172,7 @@ fn walked(answer: u32, live: &[u16], left: usize) -> Reply
 {
     Reply {
         answer,
-        left: earn(left, live.len() / 8),
+        left: earn(left, live.len() / 2),
     }
 }
 
@@ -177,7 +182,7 @@ fn search_plainly(lines: &[u16], live: &[u16], p: Point, left: usize) -> Reply
 {
     Reply {
         answer: search_all(lines, live, p),
-        left: earn(left, live.len() / 32),
+        left: earn(left, live.len() / 8),
     }
 }
 
@@ -318,7 +323,15 @@ fn walk_spot(
     walk_leaf(lines, &listings[from..to], p, at.block, c)
 }
 
-// The answer by a walk of the column of leaves over p, from north to south; after so many leaves a plain search.
+// What a leaf of so many lines costs.
+fn cost_of(count: u16) -> usize
+    ensures { λ r. ⌜ r ≡ 4 + count ⌝ }
+{
+    LEAF + (count as usize)
+}
+
+// The answer by a walk of the column of leaves over p, from north to south. What a leaf costs is asked before it is scanned; if
+// that is not there, a plain search.
 fn walk_column(
     lines: &[u16],
     nodes: &[u16],
@@ -327,17 +340,22 @@ fn walk_column(
     live: &[u16],
     p: Point,
     later: &mut [u16],
-    leaves: usize,
+    paid: usize,
 ) -> Reply
     requires { ⌜ Ready (now lines) (now nodes) (now listings) (now index) (now live) × OnGrid p × (length (now later) ≡ 64) ⌝ }
     ensures { λ r. ⌜ r .answer ≡ answerAt (now (lines .entry)) p ⌝ }
 {
     let mut at = whole_map();
     let mut best = Found::Nothing;
-    let mut left = leaves;
-    while 0 < left {
-        left -= 1;
+    let mut left = paid;
+    while LEAF <= left {
         at = go_down(nodes, index, later, p, at);
+        let node = at.node;
+        let cost = cost_of(nodes[node]);
+        if left < cost {
+            return search_plainly(lines, live, p, left);
+        }
+        left -= cost;
         match walk_spot(lines, nodes, listings, index, p, at, best) {
             Walk::Answer(n) => return walked(n, live, left),
             Walk::Going(d) => {
