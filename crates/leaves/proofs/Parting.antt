@@ -1,7 +1,7 @@
 -- The laws of the point that a fan is parted by.
 use mathlib.Core.Path.{_≡_, refl, sym, ap, ap₂, _∙_}
 use mathlib.Core.Bool.{Bool, true, false}
-use mathlib.Core.List.{List, []}
+use mathlib.Core.List.{List}
 use Prim.Native.Nat.{ℕ, _+_, _*_, _/_, _%_, _≤_, _<_}
 use native.Mathlib.Omega.{arith}
 use lib.Dec.{eqb}
@@ -9,7 +9,6 @@ use lib.ListN.{length, drop, getD, drop-of-length-le}
 use Rattle.algebra.specs.Words.{if_then_else_}
 use Rattle.definitions.specs.declared.Point.{Point}
 use Rattle.definitions.specs.Shape.{samePoint}
-use Rattle.definitions.specs.Tables.{lineAt}
 use Rattle.geometry.specs.declared.Line as code
 use Rattle.geometry.specs.Means.{lineOf, lineFrom}
 use Rattle.tables.specs.Rows.{IsLine}

@@ -15,7 +15,8 @@ use Rattle.definitions.specs.declared.Point.{Point}
 use Rattle.definitions.specs.Shape.{gridPoint}
 use Rattle.definitions.specs.Lookup.{answerAt, answerTo, answersTo}
 use Rattle.tables.specs.Slots.{LiveFront}
-use Rattle.lookup.specs.Asked.{smaller, OnGrid}
+use Rattle.column.specs.Asked.{OnGrid}
+use Rattle.lookup.specs.Asked.{smaller}
 
 -- ---- What is left for the next walk
 

@@ -1,10 +1,10 @@
 -- `leaves::mean_end` meets its contract. The invariant: what is summed up and what is left make the whole sum.
-use mathlib.Core.Path.{_≡_, sym, ap, _∙_}
-use Prim.Native.Nat.{ℕ, _+_, _-_, _*_, _≤_, _<_}
+use mathlib.Core.Path.{ap, _∙_}
+use Prim.Native.Nat.{_-_, _≤_, _<_}
 use native.Mathlib.Omega.{arith}
-use lib.ListN.{length, drop}
+use lib.ListN.{length}
 use borrow.Author.Needs.{needs}
-use Rattle.leaves.specs.Parting.{farAt, sumOf}
+use Rattle.leaves.specs.Parting.{farAt}
 use Rattle.leaves.proofs.Turns.{good-at}
 use Rattle.leaves.proofs.Parting.{Summed, summed-start, summed-turn, mean-is, far-is}
 use Rattle.leaves.proofs.mean_end.Statement.{statement}

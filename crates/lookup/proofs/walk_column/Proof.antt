@@ -6,10 +6,10 @@ use native.Mathlib.Omega.{arith}
 use lib.ListN.{length}
 use borrow.Author.Needs.{needs}
 use Rattle.definitions.specs.Shape.{north}
-use Rattle.lookup.specs.Asked.{AtSpot, northOf, Down, Ready, Plain}
-use Rattle.lookup.proofs.Descent.{down-start, down-end}
-use Rattle.lookup.proofs.Column.{grounded, taken, at-start}
-use Rattle.lookup.proofs.Seats.{placed-there}
+use Rattle.scan.specs.Asked.{Plain}
+use Rattle.column.specs.Asked.{AtSpot, northOf, Down}
+use Rattle.column.specs.Walks.{down-start, down-end, placed-there, grounded, taken, at-start}
+use Rattle.lookup.specs.Asked.{Ready}
 use Rattle.lookup.proofs.walk_column.Statement.{statement}
 use Rattle.lookup.proofs.walk_column.Tie as tie
 
