@@ -3,3 +3,4 @@ pub mod Read
 pub mod Exact
 pub mod Fans
 pub mod Sides
+pub mod Parting

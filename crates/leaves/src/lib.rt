@@ -1,4 +1,5 @@
 // Conflicts between live lines, tested only between lines of one leaf: lines that share a point share a leaf.
+use definitions::Half;
 use definitions::Point;
 use geometry::Line;
 use geometry::conflict;
@@ -9,7 +10,7 @@ use tables::line_at;
 use tables::wide;
 ghost use mathlib.Core.Path.{_≡_};
 ghost use mathlib.Core.Bool.{false, not};
-ghost use Prim.Native.Nat.{_≤_, _<_};
+ghost use Prim.Native.Nat.{_+_, _*_, _/_, _≤_, _<_};
 ghost use lib.ListN.{length};
 ghost use Rattle.algebra.specs.Words.{every, those};
 ghost use Rattle.definitions.specs.Shape.{samePoint, isEnd};
@@ -17,6 +18,7 @@ ghost use Rattle.definitions.specs.Tables.{noneConflict};
 ghost use Rattle.geometry.specs.Means.{lineOf};
 ghost use Rattle.leaves.specs.Fans.{leavesLeft};
 ghost use Rattle.leaves.specs.Sides.{endsAt, onSide, Fan, Kept};
+ghost use Rattle.leaves.specs.Parting.{farEnd, meanEnd, pivotOf};
 ghost use Rattle.leaves.specs.Pass.{clearOf, leafApart, Good, TreeUsed};
 
 // To test the pairs of fewer lines costs less than to part them.
@@ -79,7 +81,9 @@ pub fn all_end_at(lines: &[u16], slots: &[u16], v: Point) -> bool
 }
 
 // The end of the line that is not v.
-pub fn far_end(l: Line, v: Point) -> Point {
+pub fn far_end(l: Line, v: Point) -> Point
+    ensures { λ r. ⌜ r ≡ farEnd v (lineOf l) ⌝ }
+{
     if same_point(l.a, v) {
         return l.b;
     }
@@ -111,23 +115,54 @@ pub fn keep(lines: &[u16], slots: &[u16], kept: &mut [u16], v: Point, w: Point, 
     n
 }
 
-// The levels take turns: a pivot with no line to its left keeps all together, and the same place would be the same pivot again.
-pub fn pivot_place(n: usize, depth: u16) -> usize
-    requires { ⌜ 0 < n ⌝ }
-    ensures { λ r. ⌜ r < n ⌝ }
+// A number added to the sum of so many before it.
+pub fn add_to(sum: usize, n: u16, count: usize) -> usize
+    requires { ⌜ (sum ≤ 65535 * count) × (count ≤ 1024) ⌝ }
+    ensures { λ r. ⌜ (r ≡ sum + n) × (r ≤ 65535 * (count + 1)) ⌝ }
 {
-    if depth % 2 == 0 {
-        return n / 2;
-    }
-    n / 4
+    sum + (n as usize)
 }
 
-// A point that the fan is parted by: any would do.
-pub fn pivot(lines: &[u16], slots: &[u16], v: Point, depth: u16) -> Point
-    requires { ⌜ Good (now lines) (now slots) × (0 < length (now slots)) ⌝ }
+// The mean of so many numbers, by their sum.
+pub fn mean(sum: usize, count: usize) -> u16
+    requires { ⌜ (0 < count) × (sum ≤ 65535 * count) ⌝ }
+    ensures { λ r. ⌜ r ≡ sum / count ⌝ }
 {
-    let i = pivot_place(slots.len(), depth);
-    far_end(line_at(lines, slots[i]), v)
+    (sum / count) as u16
+}
+
+// The mean of the far ends of the lines of a fan at v.
+pub fn mean_end(lines: &[u16], slots: &[u16], v: Point) -> Point
+    requires { ⌜ Good (now lines) (now slots) × (0 < length (now slots)) × (length (now slots) ≤ 1024) ⌝ }
+    ensures { λ r. ⌜ r ≡ meanEnd (now (lines .entry)) v (now (slots .entry)) ⌝ }
+{
+    let mut x: usize = 0;
+    let mut y: usize = 0;
+    let mut read: usize = 0;
+    while read < slots.len() {
+        let far = far_end(line_at(lines, slots[read]), v);
+        x = add_to(x, far.x.0, read);
+        y = add_to(y, far.y.0, read);
+        read += 1;
+    }
+    let n = slots.len();
+    Point {
+        x: Half(mean(x, n)),
+        y: Half(mean(y, n)),
+    }
+}
+
+// The point that the fan is parted by: any would do. The levels take turns: no order of the slots is bad for the mean, and no
+// shape of the fan for an end of its own.
+pub fn pivot(lines: &[u16], slots: &[u16], v: Point, depth: u16) -> Point
+    requires { ⌜ Good (now lines) (now slots) × (0 < length (now slots)) × (length (now slots) ≤ 1024) ⌝ }
+    ensures { λ r. ⌜ r ≡ pivotOf (now (lines .entry)) v (now (slots .entry)) depth ⌝ }
+{
+    if depth % 2 == 0 {
+        let i = slots.len() / 2;
+        return far_end(line_at(lines, slots[i]), v);
+    }
+    mean_end(lines, slots, v)
 }
 
 // The lines of a fan at v conflict. Lines on different sides of a way from v never do, so each side is tested for itself.

@@ -1,5 +1,1 @@
-pub mod Scans
-pub mod Descent
-pub mod Seats
-pub mod Column
 pub mod Answering

@@ -9,7 +9,7 @@ use Rattle.algebra.specs.Tests.{both→}
 use Rattle.definitions.specs.Tree.{Rule}
 use Rattle.definitions.specs.Tables.{Tables, lengthsFit, sound}
 use Rattle.meaning.specs.Sound.{sound→}
-use Rattle.lookup.specs.Asked.{Mapped}
+use Rattle.column.specs.Asked.{Mapped}
 
 pub mapped : (rule : Rule) (t : Tables) → lengthsFit t ≡ true → sound rule t ≡ true → Mapped (t .lines) (t .nodes) (t .listings)
 unfolding lengthsFit

@@ -1,0 +1,3 @@
+pub mod Descent
+pub mod Seats
+pub mod Column

@@ -1,0 +1,47 @@
+-- `scan::upper_of` meets its contract.
+use borrow.Author.Needs.{needs}
+use Rattle.scan.specs.Told.{under-map}
+use Rattle.scan.proofs.Scans.{eastern, upper-is, upper-none}
+use Rattle.scan.proofs.upper_of.Statement.{statement}
+use Rattle.scan.proofs.upper_of.Tie as tie
+
+enum-told : tie.Need-enum-told
+enum-told c = search needs
+
+enum-known-best : tie.Need-enum-known-best
+enum-known-best c = search needs
+
+eastward-requires : tie.Need-eastward-requires
+eastward-requires c κs = search needs
+
+line-at-requires : tie.Need-line-at-requires
+line-at-requires c κs = let b = c .before .before in under-map _ (rw (b .best .given .1) at (b .before .before .before .pre .first))
+
+eastward-requires-2 : tie.Need-eastward-requires-2
+eastward-requires-2 c κs = search needs
+
+higher-requires : tie.Need-higher-requires
+higher-requires c κs = let b = c .before .before .before .before in let s = b .before .before .before in eastern _ (s .pre .second) (rw (b .best .given .1) at (s .pre .first)) (s .pre .is-line) (c .before .line-at .ensures) (c .before .before .eastward .ensures) (c .eastward2 .ensures)
+
+returns : tie.Need-returns
+returns c = let g = c .before in let b = g .before .before .before .before .before in let s = b .before .before .before in rw (b .best .given .1) (upper-is _ (s .pre .second) (rw (b .best .given .1) at (s .pre .first)) (s .pre .is-line) (g .before .before .line-at .ensures) (g .before .before .before .eastward .ensures) (g .before .eastward2 .ensures) (g .higher .ensures) (c .if1 .taken))
+
+returns-2 : tie.Need-returns-2
+returns-2 c = rw (c .enum-told .given .1) (upper-none _ _)
+
+returns-3 : tie.Need-returns-3
+returns-3 c = let g = c .before in let b = g .before .before .before .before .before in let s = b .before .before .before in rw (b .best .given .1) (upper-is _ (s .pre .second) (rw (b .best .given .1) at (s .pre .first)) (s .pre .is-line) (g .before .before .line-at .ensures) (g .before .before .before .eastward .ensures) (g .before .eastward2 .ensures) (g .higher .ensures) (c .if1 .left))
+
+pub upper-of-spec : {M : Type 1} → statement M
+upper-of-spec =
+    tie.close
+    (tie.spec
+    enum-told
+    enum-known-best
+    eastward-requires
+    line-at-requires
+    eastward-requires-2
+    higher-requires
+    returns
+    returns-2
+    returns-3)

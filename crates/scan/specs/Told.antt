@@ -1,0 +1,41 @@
+-- For callers: what a scan tells, by its answer, and which slots can be scanned.
+use mathlib.Core.Path.{_≡_, refl, subst}
+use mathlib.Core.Bool.{true}
+use mathlib.Core.List.{List, [], _∷_}
+use Prim.Native.Nat.{ℕ}
+use native.Mathlib.Omega.{arith}
+use lib.ListN.{length}
+use borrow.Author.Tests.{eq-eqb}
+use Rattle.algebra.specs.Words.{every}
+use Rattle.definitions.specs.declared.Point.{Point}
+use Rattle.definitions.specs.Tables.{isLive, slotsOf, slotSound}
+use Rattle.definitions.specs.Meaning.{Live}
+use Rattle.meaning.specs.declared.Found.{Found}
+use Rattle.meaning.specs.declared.Found.the-variants.{At}
+use Rattle.meaning.specs.Best.{scan}
+use Rattle.meaning.specs.Locate.{firstOn}
+use Rattle.tables.specs.Rows.{OnMap}
+use Rattle.tables.specs.Sound.{on-map, sound-at}
+use Rattle.scan.specs.Asked.{Under, one, NoneOn, ScanIs}
+use Rattle.scan.specs.declared.Scan.{Scan}
+use Rattle.scan.specs.declared.Scan.the-variants as Scanned
+
+-- ---- What a scan tells
+
+pub scan-best : {lines slots : List ℕ} {p : Point} {c d d′ : Found} {r : Scan} → ScanIs lines p c slots r → r ≡ Scanned.Best d → d ≡ d′ → NoneOn lines p c slots d′
+scan-best {lines} {slots} {p} {c} h e f = subst (λ (x : Found). NoneOn lines p c slots x) f (subst (λ (x : Scan). ScanIs lines p c slots x) e h)
+
+-- a list of no slots
+pub none-there : {lines slots : List ℕ} {p : Point} {c : Found} → length slots ≡ 0 → Under lines p c → NoneOn lines p c slots c
+unfolding firstOn scan
+none-there {slots = []} e u = record { none-on = refl; best = refl; under = u }
+none-there {slots = s ∷ more} e u = absurd (omega arith)
+
+-- ---- Slots on the map
+
+pub under-map : (lines : List ℕ) {p : Point} {s : ℕ} → Under lines p (At s) → OnMap lines s
+under-map lines (one m b) = m
+
+pub live-on-map : (lines : List ℕ) (s : ℕ) → every (slotSound lines) (slotsOf lines) ≡ true → Live lines s → OnMap lines s
+unfolding isLive
+live-on-map lines s e v = let h = v .there in on-map lines s (omega arith) (sound-at lines e h) (eq-eqb _ _ (v .lives))
