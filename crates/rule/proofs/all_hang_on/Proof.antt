@@ -9,10 +9,10 @@ use borrow.Author.Tests.{not-true, not-false}
 use Rattle.algebra.specs.Lists.{mem-at}
 use Rattle.algebra.specs.Words.{every}
 use Rattle.geometry.specs.Means.{blockOf}
-use Rattle.tree.specs.Candidates.{hangsAt}
-use Rattle.tree.proofs.Rule.{every-turn, every-not, hangs-is}
-use Rattle.tree.proofs.all_hang_on.Statement.{statement}
-use Rattle.tree.proofs.all_hang_on.Tie as tie
+use Rattle.rule.specs.Rule.{hangsAt}
+use Rattle.rule.proofs.Rule.{every-turn, every-not, hangs-is}
+use Rattle.rule.proofs.all_hang_on.Statement.{statement}
+use Rattle.rule.proofs.all_hang_on.Tie as tie
 
 abbrev Inv-loop : tie.InvT-loop
 Inv-loop lines slots k v i₀ i = (i ≤ length slots) × (every (hangsAt lines (blockOf k) v) (take i slots) ≡ true)

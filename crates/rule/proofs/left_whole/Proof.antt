@@ -1,8 +1,8 @@
 use mathlib.Core.Path.{sym, _∙_}
-use Rattle.tree.proofs.Rule.{whole-above}
+use Rattle.rule.proofs.Rule.{whole-above}
 use borrow.Author.Needs.{needs}
-use Rattle.tree.proofs.left_whole.Statement.{statement}
-use Rattle.tree.proofs.left_whole.Tie as tie
+use Rattle.rule.proofs.left_whole.Statement.{statement}
+use Rattle.rule.proofs.left_whole.Tie as tie
 
 returns : tie.Need-returns
 returns c = search needs

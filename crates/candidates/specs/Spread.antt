@@ -1,55 +1,27 @@
--- What is asked of candidates, the rule of division by an end, and the candidates of the four sons.
+-- The candidates of the four sons: what a spread asks, and what it leaves.
 use mathlib.Core.Path.{_≡_}
-use mathlib.Core.Bool.{Bool, true, false, not, _&&_}
+use mathlib.Core.Bool.{Bool, true, false}
 use mathlib.Core.List.{List, List·Memᴰ}
-use Prim.Native.Nat.{ℕ, zero, suc, _+_, _*_, _-_, _/_, _≤_}
+use Prim.Native.Nat.{ℕ, _+_, _*_, _-_, _/_, _≤_}
 use lib.ListN.{length, take}
 use lib.Seq.{slice}
 use Rattle.algebra.specs.Words.{those}
-use Rattle.definitions.specs.declared.Point.{Point}
-use Rattle.definitions.specs.Shape.{Line, Block, nwOf, neOf, swOf, seOf, meets, inside, samePoint}
+use Rattle.definitions.specs.Shape.{Block, nwOf, neOf, swOf, seOf, meets}
 use Rattle.definitions.specs.Tables.{lineAt}
 use Rattle.tables.specs.Rows.{OnMap}
-use Rattle.tree.specs.declared.Span.{Span}
-use Rattle.tree.specs.declared.Spans.{Spans}
-
--- the slot is in the table, its line on the grid and of some length
-pub record Good (lines : List ℕ) (s : ℕ) : Type 0 where
-  pub onMap : OnMap lines s
-  pub proper : samePoint (lineAt lines s .a) (lineAt lines s .b) ≡ false
+use Rattle.candidates.specs.declared.Span.{Span}
+use Rattle.candidates.specs.declared.Spans.{Spans}
 
 unfoldable pub meetsAt : List ℕ → Block → ℕ → Bool
 meetsAt lines k s = meets k (lineAt lines s)
-
-pub record Candidate (lines : List ℕ) (k : Block) (s : ℕ) : Type 0 where
-  pub good : Good lines s
-  pub met : meetsAt lines k s ≡ true
-
-abbrev pub Candidates : List ℕ → Block → List ℕ → Type 0
-Candidates lines k slots = (s : ℕ) → List·Memᴰ s slots → Candidate lines k s
-
--- ---- an end that all lines share
-
--- v is an end of the line, and the other end lies outside the block
-unfoldable pub hangs : Block → Point → Line → Bool
-hangs k v l = elim (samePoint (l .a) v) [ true ↦ not (inside k (l .b)) | false ↦ samePoint (l .b) v && not (inside k (l .a)) ]
-
-unfoldable pub hangsAt : List ℕ → Block → Point → ℕ → Bool
-hangsAt lines k v s = hangs k v (lineAt lines s)
-
--- level 0 is never divided
-abbrev pub leftWhole : ℕ → Bool → Bool
-leftWhole zero simple = true
-leftWhole (suc n) simple = simple
-
--- ---- the candidates of the four sons
 
 abbrev pub digit : Bool → ℕ
 digit true = 1
 digit false = 0
 
 pub record Spreadable (lines slots : List ℕ) (c : Span) (k : Block) : Type 0 where
-  pub candidates : Candidates lines k (slice (c .from) (c .to) slots)
+  pub on-map : (s : ℕ) → List·Memᴰ s (slice (c .from) (c .to) slots) → OnMap lines s
+  pub met : (s : ℕ) → List·Memᴰ s (slice (c .from) (c .to) slots) → meets k (lineAt lines s) ≡ true
   pub span : c .from ≤ c .to
   pub below : c .to ≤ c .free
   pub work : c .free + 4 * (c .to - c .from) ≤ length slots

@@ -22,7 +22,7 @@ use Rattle.meaning.specs.Rules.{of-ends, in-ends}
 use Rattle.geometry.specs.declared.Line as code
 use Rattle.geometry.specs.Means.{lineOf}
 use Rattle.tables.specs.Rows.{IsLine}
-use Rattle.tree.specs.Candidates.{hangs, hangsAt, leftWhole, Candidate, Candidates, meetsAt}
+use Rattle.rule.specs.Rule.{hangs, hangsAt, leftWhole, Candidate, Candidates}
 
 -- ---- a line that hangs on v
 module _ (k : Block) (v : Point) (l : Line) where
@@ -219,7 +219,6 @@ module _ {lines : List ℕ} {k : Block} {slots : List ℕ} {r : code.Line} (f : 
   candidate {s} m = f .candidates s (subst (λ (z : List ℕ). List·Memᴰ s z) whole m)
 
   met : {s : ℕ} → List·Memᴰ s (x ∷ rest) → meets k (lineAt lines s) ≡ true
-  unfolding meetsAt
   met m = candidate m .met
 
   pub rest-candidates : Candidates lines k rest

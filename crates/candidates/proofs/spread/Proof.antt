@@ -3,9 +3,9 @@ use native.Mathlib.Omega.{arith}
 use lib.ListN.{length-set}
 use borrow.Author.Needs.{needs}
 use Rattle.geometry.specs.Means.{blockOf}
-use Rattle.tree.proofs.Spreading.{Turned, turned-none, turned-on, candidate, sons-asked, son-done}
-use Rattle.tree.proofs.spread.Statement.{statement}
-use Rattle.tree.proofs.spread.Tie as tie
+use Rattle.candidates.proofs.Spreading.{Turned, turned-none, turned-on, on-map, sons-asked, son-done}
+use Rattle.candidates.proofs.spread.Statement.{statement}
+use Rattle.candidates.proofs.spread.Tie as tie
 
 abbrev Inv-loop : tie.InvT-loop
 Inv-loop lines slots₀ c k n first second third fourth nw₀ ne₀ sw₀ se₀ i₀ slots nw ne sw se i = Turned lines (blockOf k) (c .from) (c .to) (c .free) n slots₀ slots nw ne sw se i
@@ -43,7 +43,7 @@ slice-read-s c = search needs
 line-at-requires : tie.Need-line-at-requires Inv-loop μ-loop
 line-at-requires c κs =
     let l = c .before .before .before in
-    candidate (start (l .before) .pre) (l .loop .inv) (c .before .if1 .taken) .good .onMap
+    on-map (start (l .before) .pre) (l .loop .inv) (c .before .if1 .taken)
 
 sons-met-requires : tie.Need-sons-met-requires Inv-loop μ-loop
 sons-met-requires c κs =

@@ -1,7 +1,7 @@
 -- The loop that spreads candidates: one value written at the ends of four lists, each of which grows if its son is met.
 use mathlib.Core.Path.{_≡_, refl, sym, ap, _∙_}
 use mathlib.Core.Bool.{Bool, true, false}
-use mathlib.Core.List.{List, [], _∷_, _++_, append-nil}
+use mathlib.Core.List.{List, [], _∷_, _++_, append-nil, List·Memᴰ}
 use Prim.Native.Nat.{ℕ, _+_, _-_, _*_, _≤_, _<_}
 use native.Mathlib.Nat.{add-zero}
 use native.Mathlib.Numerals.{add-one}
@@ -16,9 +16,9 @@ use Rattle.meaning.specs.Rules.{meets-ends}
 use Rattle.geometry.specs.declared.Line.{Line}
 use Rattle.geometry.specs.declared.Met.{Met}
 use Rattle.geometry.specs.Means.{lineOf, SonsAsked, SonsMet}
-use Rattle.tables.specs.Rows.{IsLine}
-use Rattle.tree.specs.declared.Span.{Span}
-use Rattle.tree.specs.Candidates.{digit, meetsAt, Candidate, Spreadable, Son}
+use Rattle.tables.specs.Rows.{OnMap, IsLine}
+use Rattle.candidates.specs.declared.Span.{Span}
+use Rattle.candidates.specs.Spread.{digit, meetsAt, Spreadable, Son}
 
 -- ---- one list: its part at .. end holds those of the first candidates that pass
 pub record Fills (p : ℕ → Bool) (slots₀ slots : List ℕ) (from i at end : ℕ) : Type 0 where
@@ -133,8 +133,8 @@ module _ {lines s₀ : List ℕ} {c : Span} {kb : Block} (asked : Spreadable lin
     in-table : i < length s₀
     in-table = omega arith
 
-    pub candidate : Candidate lines kb v
-    candidate = rw (is ∙ this-is) at (asked .candidates (getD (slice (c .from) (c .to) s₀) (i - c .from) 0) (mem-at (slice (c .from) (c .to) s₀) (i - c .from) (rw (length-slice (c .from) (c .to) s₀ (omega arith)) (omega arith))))
+    among : List·Memᴰ v (slice (c .from) (c .to) s₀)
+    among = rw (is ∙ this-is) at (mem-at (slice (c .from) (c .to) s₀) (i - c .from) (rw (length-slice (c .from) (c .to) s₀ (omega arith)) (omega arith)))
       where
         step : c .from + (i - c .from) ≡ i
         step = omega arith
@@ -142,9 +142,12 @@ module _ {lines s₀ : List ℕ} {c : Span} {kb : Block} (asked : Spreadable lin
         is : getD (slice (c .from) (c .to) s₀) (i - c .from) 0 ≡ getD s₀ i 0
         is = getD-drop (c .from) (take (c .to) s₀) (i - c .from) 0 ∙ ap (λ (j : ℕ). getD (take (c .to) s₀) j 0) step ∙ getD-take (c .to) s₀ i 0 h
 
+    pub on-map : OnMap lines v
+    on-map = asked .on-map v among
+
     module _ {r : Line} (e : IsLine lines v r) where
       pub sons-asked : SonsAsked kb (lineOf r)
-      sons-asked = record { wide = asked .wide; tall = asked .tall; even = asked .even; met = met-is kb e ∙ candidate .met }
+      sons-asked = record { wide = asked .wide; tall = asked .tall; even = asked .even; met = meets-ends kb (lineOf r) (lineAt lines v) (e .a-is, e .b-is) ∙ asked .met v among }
 
       module _ (m : Met) (q : SonsMet kb (lineOf r) (m .nw) (m .ne) (m .sw) (m .se)) where
         pub turned-on : Turned lines kb (c .from) (c .to) (c .free) n s₀ (put4 slots v nw ne sw se) (nw + digit (m .nw)) (ne + digit (m .ne)) (sw + digit (m .sw)) (se + digit (m .se)) (i + 1)

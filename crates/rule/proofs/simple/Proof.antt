@@ -4,10 +4,10 @@ use native.Mathlib.Nat.{pos-of-ne-zero}
 use Rattle.algebra.specs.Lists.{mem-at}
 use Rattle.geometry.specs.Means.{blockOf}
 use Rattle.definitions.specs.Shape.{inside as insideOf}
-use Rattle.tree.proofs.Rule.{First, no-candidate, rest-candidates, both-inside, alone, first-inside, second-inside, many}
+use Rattle.rule.proofs.Rule.{First, no-candidate, rest-candidates, both-inside, alone, first-inside, second-inside, many}
 use borrow.Author.Needs.{needs}
-use Rattle.tree.proofs.simple.Statement.{statement}
-use Rattle.tree.proofs.simple.Tie as tie
+use Rattle.rule.proofs.simple.Statement.{statement}
+use Rattle.rule.proofs.simple.Tie as tie
 
 abbrev start : tie.After-inside2 → tie.Start
 start g = g .before .before .before .before .before .before .before

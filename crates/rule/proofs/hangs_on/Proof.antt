@@ -1,10 +1,10 @@
 use mathlib.Core.Path.{sym, ap, ap₂, _∙_}
 use mathlib.Core.Bool.{Bool, not, _&&_}
 use Rattle.geometry.specs.Means.{blockOf, lineOf}
-use Rattle.tree.proofs.Rule.{hangs-first, hangs-second}
+use Rattle.rule.proofs.Rule.{hangs-first, hangs-second}
 use borrow.Author.Needs.{needs}
-use Rattle.tree.proofs.hangs_on.Statement.{statement}
-use Rattle.tree.proofs.hangs_on.Tie as tie
+use Rattle.rule.proofs.hangs_on.Statement.{statement}
+use Rattle.rule.proofs.hangs_on.Tie as tie
 
 same-point-requires : tie.Need-same-point-requires
 same-point-requires c κs = search needs
