@@ -2,8 +2,8 @@ use lib.ListN.{length}
 use mathlib.Core.Path.{_≡_}
 use Prim.Native.Nat.{_-_}
 use borrow.Author.Needs.{needs}
-use Rattle.cases.proofs.tools.left_over.Statement.{statement}
-use Rattle.cases.proofs.tools.left_over.Tie as tie
+use Rattle.steps.proofs.tools.left_over.Statement.{statement}
+use Rattle.steps.proofs.tools.left_over.Tie as tie
 
 abbrev Inv-loop : tie.InvT-loop
 Inv-loop t from i₀ i-end i = i-end ≡ length t

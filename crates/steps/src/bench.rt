@@ -7,12 +7,15 @@ use crate::tools::set_entry;
 use crate::tools::show_leaf;
 use crate::tools::tell;
 use crate::tools::word;
+use definitions::Answer;
 use definitions::Given;
+ghost use Prim.Native.Nat.{_≤_};
 
+// Each table one entry or slot longer than may be lent.
 pub struct Bench {
-    pub lines: [u16; 32],
-    pub nodes: [u16; 200],
-    pub listings: [u16; 200],
+    pub lines: [u16; 8200],
+    pub nodes: [u16; 16385],
+    pub listings: [u16; 16385],
     pub line_entries: usize,
     pub node_entries: usize,
     pub listing_entries: usize,
@@ -22,7 +25,6 @@ enum Step {
     Start,
     Insert(Given),
     Delete(u32),
-    Show(u16, u16),
 }
 
 // Every table 0, with so many entries lent.
@@ -34,9 +36,9 @@ pub fn lent(
 ) -> Bench {
     word(name);
     Bench {
-        lines: [0; 32],
-        nodes: [0; 200],
-        listings: [0; 200],
+        lines: [0; 8200],
+        nodes: [0; 16385],
+        listings: [0; 16385],
         line_entries,
         node_entries,
         listing_entries,
@@ -48,21 +50,19 @@ pub fn case(name: &[u8]) -> Bench {
     lent(name, 32, 200, 200)
 }
 
-fn call(lines: &mut [u16], nodes: &mut [u16], listings: &mut [u16], step: Step) {
-    bar();
-    if let Step::Insert(g) = step {
-        tell(map::insert(lines, nodes, listings, g));
-        return;
+// So many, or as many as there are.
+fn at_most(n: usize, all: usize) -> usize
+    ensures { λ r. ⌜ r ≤ all ⌝ }
+{
+    if n < all { n } else { all }
+}
+
+fn answer_to(lines: &mut [u16], nodes: &mut [u16], listings: &mut [u16], step: Step) -> Answer {
+    match step {
+        Step::Start => map::start(lines, nodes, listings),
+        Step::Insert(g) => map::insert(lines, nodes, listings, g),
+        Step::Delete(handle) => map::delete(lines, nodes, listings, handle),
     }
-    if let Step::Delete(handle) = step {
-        tell(map::delete(lines, nodes, listings, handle));
-        return;
-    }
-    if let Step::Show(x, y) = step {
-        show_leaf(lines, nodes, listings, x, y);
-        return;
-    }
-    tell(map::start(lines, nodes, listings));
 }
 
 fn call_on_parts(
@@ -74,16 +74,10 @@ fn call_on_parts(
     m: usize,
     step: Step,
 ) {
-    if lines.len() < l {
-        return;
-    }
-    if nodes.len() < n {
-        return;
-    }
-    if listings.len() < m {
-        return;
-    }
-    call(&mut lines[..l], &mut nodes[..n], &mut listings[..m], step);
+    let l = at_most(l, lines.len());
+    let n = at_most(n, nodes.len());
+    let m = at_most(m, listings.len());
+    tell(answer_to(&mut lines[..l], &mut nodes[..n], &mut listings[..m], step));
 }
 
 fn take(b: Bench, step: Step) -> Bench {
@@ -93,6 +87,7 @@ fn take(b: Bench, step: Step) -> Bench {
     let line_entries = b.line_entries;
     let node_entries = b.node_entries;
     let listing_entries = b.listing_entries;
+    bar();
     call_on_parts(
         &mut lines,
         &mut nodes,
@@ -136,17 +131,70 @@ pub fn remove(b: Bench, handle: u32) -> Bench {
     take(b, Step::Delete(handle))
 }
 
-pub fn show(b: Bench, x: u16, y: u16) {
-    take(b, Step::Show(x, y));
+fn show_on_parts(
+    lines: &[u16],
+    nodes: &[u16],
+    listings: &[u16],
+    l: usize,
+    n: usize,
+    m: usize,
+    x: u16,
+    y: u16,
+) {
+    let l = at_most(l, lines.len());
+    let n = at_most(n, nodes.len());
+    let m = at_most(m, listings.len());
+    show_leaf(&lines[..l], &nodes[..n], &listings[..m], x, y);
 }
 
-// Points are asked with all entries lent.
+pub fn show(b: Bench, x: u16, y: u16) {
+    let lines = b.lines;
+    let nodes = b.nodes;
+    let listings = b.listings;
+    bar();
+    show_on_parts(
+        &lines,
+        &nodes,
+        &listings,
+        b.line_entries,
+        b.node_entries,
+        b.listing_entries,
+        x,
+        y,
+    );
+}
+
+fn look_on_parts(
+    lines: &[u16],
+    nodes: &[u16],
+    listings: &[u16],
+    l: usize,
+    n: usize,
+    m: usize,
+    points: &[u16],
+    answers: &mut [u32],
+) {
+    let l = at_most(l, lines.len());
+    let n = at_most(n, nodes.len());
+    let m = at_most(m, listings.len());
+    tell(map::locate(&lines[..l], &nodes[..n], &listings[..m], points, answers));
+}
+
 pub fn look(b: Bench, points: &[u16], answers: &mut [u32]) {
     let lines = b.lines;
     let nodes = b.nodes;
     let listings = b.listings;
     bar();
-    tell(map::locate(&lines, &nodes, &listings, points, answers));
+    look_on_parts(
+        &lines,
+        &nodes,
+        &listings,
+        b.line_entries,
+        b.node_entries,
+        b.listing_entries,
+        points,
+        answers,
+    );
     all_answers(answers);
 }
 

@@ -2,8 +2,8 @@ use lib.ListN.{length}
 use mathlib.Core.Path.{_≡_}
 use Prim.Native.Nat.{_-_}
 use borrow.Author.Needs.{needs}
-use Rattle.cases.proofs.tools.all_answers.Statement.{statement}
-use Rattle.cases.proofs.tools.all_answers.Tie as tie
+use Rattle.steps.proofs.tools.all_answers.Statement.{statement}
+use Rattle.steps.proofs.tools.all_answers.Tie as tie
 
 abbrev Inv-loop : tie.InvT-loop
 Inv-loop answers i₀ i-end i = i-end ≡ length answers

@@ -1,7 +1,7 @@
 use Prim.Native.Nat.{_≤_, _-_}
 use borrow.Author.Needs.{needs}
-use Rattle.cases.proofs.tools.entries.Statement.{statement}
-use Rattle.cases.proofs.tools.entries.Tie as tie
+use Rattle.steps.proofs.tools.entries.Statement.{statement}
+use Rattle.steps.proofs.tools.entries.Tie as tie
 
 abbrev Inv-loop : tie.InvT-loop
 Inv-loop t from to i₀ i = i₀ ≤ i

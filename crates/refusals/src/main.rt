@@ -1,21 +1,21 @@
-// Each refusal by its number, with the tables afterwards; and histories of slots.
-use crate::bench::Bench;
-use crate::bench::add;
-use crate::bench::case;
-use crate::bench::cleared;
-use crate::bench::labelled;
-use crate::bench::lend_lines;
-use crate::bench::lent;
-use crate::bench::lines_part;
-use crate::bench::look;
-use crate::bench::remove;
-use crate::bench::set_line;
-use crate::bench::set_listing;
-use crate::bench::set_node;
-use crate::bench::show;
-use crate::bench::start;
-use crate::bench::tree;
-use crate::tools::end;
+// Each refusal by its number, with the tables afterwards, and histories of slots, run on the proved library.
+use steps::bench::Bench;
+use steps::bench::add;
+use steps::bench::case;
+use steps::bench::cleared;
+use steps::bench::labelled;
+use steps::bench::lend_lines;
+use steps::bench::lent;
+use steps::bench::lines_part;
+use steps::bench::look;
+use steps::bench::remove;
+use steps::bench::set_line;
+use steps::bench::set_listing;
+use steps::bench::set_node;
+use steps::bench::show;
+use steps::bench::start;
+use steps::bench::tree;
+use steps::tools::end;
 
 // Most cases start from the line from corner to corner: 5 nodes, 4 listings, all of slot 0.
 fn drawn(b: Bench) -> Bench {
@@ -255,6 +255,9 @@ fn lengths() {
     torn_slot();
     not_started(lent(b"1 no slot lent", 0, 200, 200));
     not_started(lent(b"1 no node lent", 32, 0, 200));
+    not_started(lent(b"1 16385 nodes", 8, 16385, 4));
+    not_started(lent(b"1 16385 listings", 8, 5, 16385));
+    not_started(lent(b"1 1025 slots", 8200, 5, 4));
     odd_points();
     not_half();
 }
@@ -268,7 +271,7 @@ fn damage() {
     equal_lines();
 }
 
-pub fn all() {
+fn main() {
     lengths();
     damage();
     off_grid();
