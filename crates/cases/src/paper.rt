@@ -1,24 +1,39 @@
-// The paper's own cases, P1 to P11 and the one that is only run; P2 and P3 stand with the large tables.
-use crate::bench::Bench;
-use crate::bench::add;
-use crate::bench::case;
-use crate::bench::cleared;
-use crate::bench::labelled;
-use crate::bench::lent;
-use crate::bench::listings_part;
-use crate::bench::look;
-use crate::bench::nodes_part;
-use crate::bench::remove;
-use crate::bench::set_line;
-use crate::bench::show;
-use crate::bench::start;
-use crate::tools::end;
+// The paper's own cases, P1 to P11 and the one that is only run.
+use steps::bench::Bench;
+use steps::bench::add;
+use steps::bench::case;
+use steps::bench::cleared;
+use steps::bench::labelled;
+use steps::bench::lent;
+use steps::bench::listings_part;
+use steps::bench::look;
+use steps::bench::nodes_part;
+use steps::bench::remove;
+use steps::bench::set_line;
+use steps::bench::show;
+use steps::bench::start;
+use steps::bench::tree;
+use steps::tools::end;
 
-pub fn p1() {
+fn p1() {
     let b = lent(b"P1 fresh map", 32, 1, 0);
     let b = start(b);
     show(b, 0, 0);
     nodes_part(b, 0, 1);
+    end();
+}
+
+fn p2() {
+    let b = lent(b"P2 from corner to corner", 32, 16384, 16384);
+    let b = add(b, 0, 0, 16383, 16383);
+    tree(b, 5, 4);
+    end();
+}
+
+fn p3() {
+    let b = lent(b"P3 along the south", 32, 16384, 16384);
+    let b = add(b, 0, 0, 16383, 0);
+    tree(b, 5, 2);
     end();
 }
 
@@ -108,6 +123,9 @@ fn run_only() {
 }
 
 pub fn all() {
+    p1();
+    p2();
+    p3();
     p4();
     p5(lent(b"P5 56 nodes", 32, 56, 2));
     p5(lent(b"P5 1 listing", 32, 57, 1));

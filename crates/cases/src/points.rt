@@ -1,8 +1,8 @@
 // Lookups worked out by hand.
-use crate::bench::case;
-use crate::bench::labelled;
-use crate::bench::look;
-use crate::tools::end;
+use steps::bench::case;
+use steps::bench::labelled;
+use steps::bench::look;
+use steps::tools::end;
 
 // Nothing is asked, nothing is answered.
 fn no_points() {

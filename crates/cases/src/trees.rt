@@ -1,17 +1,17 @@
 // Small trees worked out by hand. Numbers in the comments are half-steps: grid number g stands at 2g + 1, and the map's
 // middle is at 16,384.
-use crate::bench::Bench;
-use crate::bench::add;
-use crate::bench::case;
-use crate::bench::labelled;
-use crate::bench::lent;
-use crate::bench::lines_part;
-use crate::bench::look;
-use crate::bench::remove;
-use crate::bench::show;
-use crate::bench::tree;
-use crate::tools::end;
-use crate::tools::word;
+use steps::bench::Bench;
+use steps::bench::add;
+use steps::bench::case;
+use steps::bench::labelled;
+use steps::bench::lent;
+use steps::bench::lines_part;
+use steps::bench::look;
+use steps::bench::remove;
+use steps::bench::show;
+use steps::bench::tree;
+use steps::tools::end;
+use steps::tools::word;
 
 // From (8001,8001) north into NW and east into SE: C1 divides the map, and each son has one end, of all its lines.
 fn two_at_a_vertex(b: Bench) -> Bench {
@@ -140,6 +140,17 @@ fn smallest_with_no_end() {
     end();
 }
 
+// Document 000 on C3: two lines meet at a vertex just past a side. West of the side no end is near, and they part so
+// little that only the smallest block stops the division; the quarter with the vertex is simple.
+fn vertex_past_a_side() {
+    let b = lent(b"a vertex beside the middle", 32, 16384, 16384);
+    let b = add(b, 0, 3000, 8192, 4000);
+    let b = add(b, 0, 5000, 8192, 4000);
+    show(b, 8191, 4000);
+    show(b, 8192, 4000);
+    end();
+}
+
 // The four quarters, two of them listing it for the touched corner; the last two points stand beside the middle.
 fn diagonal() {
     let b = case(b"leaves of the diagonal");
@@ -170,6 +181,7 @@ pub fn all() {
     square();
     smallest_with_an_end();
     smallest_with_no_end();
+    vertex_past_a_side();
     diagonal();
     empty_leaf();
 }

@@ -1,5 +1,3 @@
-pub mod Rule
-pub mod Spreading
 pub mod Sequence
 pub mod Sons
 pub mod Start

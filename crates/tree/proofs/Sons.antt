@@ -19,11 +19,12 @@ use Rattle.meaning.specs.Fewer.{some-node}
 use Rattle.meaning.specs.Leaves.{base-local, candidates}
 use Rattle.meaning.specs.Rules.{by-leaf, by-divided}
 use Rattle.tables.specs.declared.Place.{Place}
-use Rattle.tree.specs.declared.Span.{Span}
-use Rattle.tree.specs.declared.Spans.{Spans}
+use Rattle.candidates.specs.declared.Span.{Span}
+use Rattle.candidates.specs.declared.Spans.{Spans}
 use Rattle.tree.specs.declared.Built.{Built}
 use Rattle.tree.specs.declared.Built.the-variants.{Next, NoRoom}
-use Rattle.tree.specs.Candidates.{leftWhole, meetsAt, Candidates, Spreadable, Spread, SonOf}
+use Rattle.candidates.specs.Spread.{meetsAt, Spreadable, Spread, SonOf}
+use Rattle.rule.specs.Rule.{leftWhole, Candidates}
 use Rattle.tree.specs.Builds.{BuiltIs, Grown, OfTree, Ready, treeFor, blockNodes, blockListings, sonsNodes, sonsListings}
 use Rattle.tree.proofs.Sequence.{grown-fit, grown-then, grown-stop, grown-low}
 
@@ -70,7 +71,7 @@ tree-of-candidates lines slots {k} {n} h =
     ∙ candidates baseRule base-local (map (lineAt lines) slots) n (k .west) (k .south)
 
 listed-all : (lines : List ℕ) (k : Block) (slots : List ℕ) → Candidates lines k slots → listed (map (lineAt lines) slots) k ≡ slots
-unfolding listed meetsAt lineAt those
+unfolding listed lineAt those
 listed-all lines k [] h = refl
 listed-all lines k (s ∷ more) h = go (listed-all lines k more (λ x m. h x (List·Memᴰ·tail m))) (h s (List·Memᴰ·head refl) .met)
   where
@@ -155,7 +156,8 @@ module _ {lines w₀ : List ℕ} {c : Span} {k : Block} {n : ℕ} {at : Place} {
       let h = half-side o in
       let d = double (suc n) in
       record {
-        candidates = ready .candidates;
+        on-map = λ s m. ready .candidates s m .good .onMap;
+        met = λ s m. ready .candidates s m .met;
         span = ready .span;
         below = ready .below;
         work = omega arith;
@@ -202,6 +204,7 @@ module _ {lines w₀ : List ℕ} {c : Span} {k : Block} {n : ℕ} {at : Place} {
         held = slice-same (sc .from) (sc .to) free w₁ w (omega arith) (so .grown .below) ∙ son .holds
 
         pub son-ready : Ready lines w sc kk n p (length s₁) (length t₁)
+        unfolding meetsAt
         son-ready =
             let q = grown-fit (so .grown) e in
             rw is

@@ -8,14 +8,13 @@ use lib.ListN.{length}
 use lib.Seq.{slice}
 use Rattle.algebra.specs.Signs.{zero-of-equal}
 use Rattle.definitions.specs.Meaning.{Spot, OnLine}
-use Rattle.definitions.specs.Shape.{Line, Block, wholeMap}
+use Rattle.definitions.specs.Shape.{Line, Block, wholeMap, meets}
 use Rattle.definitions.specs.Tables.{lineAt, liveLines}
 use Rattle.definitions.specs.Tree.{Tree, treeBy, tree, baseRule, nodesOf, listingsOf}
 use Rattle.meaning.specs.Meeting.{meets-iff, turnAt-is}
 use Rattle.tables.specs.Rows.{OnMap}
 use Rattle.tables.specs.Slots.{LiveFront, live-few}
 use Rattle.tree.specs.declared.Built.{Built}
-use Rattle.tree.specs.Candidates.{meetsAt}
 use Rattle.tree.specs.Builds.{Grown, Ready, GoodTable, origin, treeFor, blockNodes, blockListings, TreeBuilt}
 
 -- ---- a line on the grid meets the whole map
@@ -25,8 +24,8 @@ spot l = record { X = l .a .x .0; Y = l .a .y .0; Z = 1; some = omega arith }
 first-on : (l : Line) → OnLine (spot l) l
 first-on l = record { straight = zero-of-equal (turnAt-is (l .a) (l .b) (spot l)) (omega arith); fromWest = omega arith; toEast = omega arith; fromSouth = omega arith; toNorth = omega arith }
 
-in-map : (lines : List ℕ) (s : ℕ) → OnMap lines s → meetsAt lines wholeMap s ≡ true
-unfolding meetsAt lineAt
+in-map : (lines : List ℕ) (s : ℕ) → OnMap lines s → meets wholeMap (lineAt lines s) ≡ true
+unfolding lineAt
 in-map lines s g =
     meets-iff wholeMap (lineAt lines s) .1 (
       spot (lineAt lines s),

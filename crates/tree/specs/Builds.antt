@@ -10,10 +10,10 @@ use Rattle.definitions.specs.Shape.{Block, nwOf, neOf, swOf, seOf}
 use Rattle.definitions.specs.Tables.{lineAt, liveSlots, liveLines}
 use Rattle.definitions.specs.Tree.{Tree, treeBy, tree, baseRule, nodesOf, listingsOf}
 use Rattle.tables.specs.declared.Place.{Place}
-use Rattle.tree.specs.declared.Span.{Span}
+use Rattle.candidates.specs.declared.Span.{Span}
+use Rattle.rule.specs.Rule.{Good, Candidates}
 use Rattle.tree.specs.declared.Built.{Built}
 use Rattle.tree.specs.declared.Built.the-variants.{Next, NoRoom}
-use Rattle.tree.specs.Candidates.{Good, Candidates}
 
 -- ---- what is built
 

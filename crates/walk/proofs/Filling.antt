@@ -7,7 +7,7 @@ use lib.ListN.{length, getD, set, replicate, length-set, length-replicate}
 use lib.Seq.{getD-set-same, getD-set-other}
 use Rattle.definitions.specs.Tree.{Tree, leaf, divided, nodesOf, listingsOf}
 use Rattle.walk.specs.Placing.{divided-nodes, divided-listings, some-node, there}
-use Rattle.walk.specs.Index.{afterNodes, afterListings, neAt, swAt, seAt, neFirst, swFirst, seFirst, Stands, leaf-stands, sons-stand, Standing, Entries, Indexed, leaf-indexed, sons-indexed, Walkable, Put, Filled}
+use Rattle.walk.specs.Index.{afterNodes, afterListings, neAt, swAt, seAt, neFirst, swFirst, seFirst, Stands, leaf-stands, sons-stand, Standing, Entries, Indexed, leaf-indexed, sons-indexed, Walkable, Divided, Put, Filled}
 
 -- ---- Entries of the index
 
@@ -127,10 +127,11 @@ four {nodes} {t} {n} {f} h e = go (h .stands) (h .nodes-fit) (h .listings-fit)
               (cons (seAt n nw ne sw) (seFirst f nw ne sw) d (omega arith) (omega arith) (omega arith) none)));
         }
 
--- what the walk of the next son asks, where the measure of the whole walk is m
-pub asked : {nodes : List ℕ} {t : Tree} {ts : List Tree} {n f a l e m : ℕ} (e′ : ℕ) → Row nodes n (t ∷ ts) a l → (length nodes - n ≡ m) × Walkable nodes e n f → e′ ≡ e → (length nodes - a < m) × Walkable nodes e′ a l
+-- what the walk of the next son asks, where the measure of the sons' walk is m
+pub asked : {nodes : List ℕ} {t : Tree} {ts : List Tree} {n f a l e m : ℕ} (e′ : ℕ) → Row nodes n (t ∷ ts) a l → (2 * (length nodes - n) ≡ m) × Divided nodes e n f → e′ ≡ e →
+    (2 * (length nodes - a) + 1 < m) × Walkable nodes e′ a l
 asked e′ (one {t = t} p h r) w z =
-    (omega (arith, w .0, there h), record { tree = t; standing = h; few = w .1 .few; room = omega (arith, w .1 .room) })
+    (omega (arith, w .0, there h), record { tree = t; standing = h; few = w .1 .walkable .few; room = omega (arith, w .1 .walkable .room) })
 
 -- ---- What a walk of a block has done
 

@@ -91,6 +91,11 @@ pub record Walkable (nodes : List ℕ) (entries n f : ℕ) : Type 0 where
   pub few : length nodes ≤ 16384
   pub room : 4 * length nodes ≤ entries
 
+-- and that tree is a divided block
+pub record Divided (nodes : List ℕ) (entries n f : ℕ) : Type 0 where
+  pub walkable : Walkable nodes entries n f
+  pub mark : getD nodes n 0 ≡ 65535
+
 -- the table s became s′: the entries of place n are these, and all others as they were
 pub record Put (n a b c d : ℕ) (s s′ : List ℕ) : Type 0 where
   pub entries : Entries s′ n a b c d

@@ -6,7 +6,7 @@ ghost use mathlib.Core.Path.{_≡_};
 ghost use Prim.Native.Nat.{ℕ, _+_, _*_, _≤_, _<_};
 ghost use lib.ListN.{length};
 ghost use Rattle.definitions.specs.Tree.{Tree};
-ghost use Rattle.walk.specs.Index.{Standing, Indexed, Walkable, Filled, Put, SonOver, Searchable, LeafOver};
+ghost use Rattle.walk.specs.Index.{Standing, Indexed, Walkable, Divided, Filled, Put, SonOver, Searchable, LeafOver};
 
 // A leaf: its block, where its listings start, and how many they are.
 pub struct Leaf {
@@ -57,15 +57,26 @@ fn index_block(nodes: &[u16], index: &mut [u16], at: Place) -> Place
             listing: listing + wide(count),
         };
     }
-    let nw = node + 1;
-    let ne = index_block(nodes, index, Place { node: nw, listing });
+    index_sons(nodes, index, at)
+}
+
+// The same for a divided block: its four sons in turn, and then its own entries, which are their nodes.
+fn index_sons(nodes: &[u16], index: &mut [u16], at: Place) -> Place
+    requires { ⌜ Divided (now nodes) (length (now index)) (at .node) (at .listing) ⌝ }
+    ensures { λ r. ⌜ ((t : Tree) → Standing (now (nodes .entry)) t (at .node) (at .listing) → Filled t (at .node) (at .listing) (r .node) (r .listing) (now (index .entry)) (now (index .exit))) ⌝ }
+{
+    let nw = Place {
+        node: at.node + 1,
+        listing: at.listing,
+    };
+    let ne = index_block(nodes, index, nw);
     let sw = index_block(nodes, index, ne);
     let se = index_block(nodes, index, sw);
     let next = index_block(nodes, index, se);
     put_four(
         index,
-        node,
-        nw as u16,
+        at.node,
+        nw.node as u16,
         ne.node as u16,
         sw.node as u16,
         se.node as u16,

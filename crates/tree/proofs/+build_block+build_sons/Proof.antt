@@ -11,7 +11,7 @@ use Rattle.definitions.specs.Tables.{lineAt}
 use Rattle.definitions.specs.Tree.{simple as simpleOf}
 use Rattle.geometry.specs.Means.{blockOf}
 use Rattle.tree.specs.declared.Built.the-variants.{Next}
-use Rattle.tree.specs.Candidates.{Candidates, leftWhole}
+use Rattle.rule.specs.Rule.{Candidates, leftWhole}
 use Rattle.tree.specs.Builds.{sonsNodes, sonsListings}
 use Rattle.tree.proofs.Sequence.{grown-divided}
 use Rattle.tree.proofs.Sons.{IsDivided, left-whole, is-divided, grown-leaf, grown-none, ready-down, spreadable, nw-of-tree, ne-of-tree, sw-of-tree, se-of-tree, SoFar, no-son, sons-grown, sons-stop, son-ready, son-then}
@@ -28,9 +28,9 @@ use Rattle.geometry.proofs.north_east.Reads as north-east-reads
 use Rattle.geometry.proofs.north_west.Reads as north-west-reads
 use Rattle.geometry.proofs.south_east.Reads as south-east-reads
 use Rattle.geometry.proofs.south_west.Reads as south-west-reads
-use Rattle.tree.proofs.left_whole.Reads as left-whole-reads
+use Rattle.rule.proofs.left_whole.Reads as left-whole-reads
 use Rattle.tree.proofs.put_leaf.Reads as put-leaf-reads
-use Rattle.tree.proofs.spread.Reads as spread-reads
+use Rattle.candidates.proofs.spread.Reads as spread-reads
 use Rattle.tree.proofs.+build_block+build_sons.{statement}
 use Rattle.tree.proofs.+build_block+build_sons.Tie.{close}
 
