@@ -44,10 +44,7 @@ pub record LeafOver (lines slots : List ℕ) (p : Point) (k : Block) (c : Found)
   pub south-of : k .south < p .y .0
   pub down : Down lines p (north k) c
 
--- the half of a block over p, by its number and its two sons
-pub data StripOver (p : Point) (k : Block) : ℕ → Block → Block → Type 0 where
-  in-west : {a b : Block} → p .x .0 < k .west + k .side / 2 → a ≡ nwOf k → b ≡ swOf k → StripOver p k 0 a b
-  in-east : {a b : Block} → k .west + k .side / 2 ≤ p .x .0 → a ≡ neOf k → b ≡ seOf k → StripOver p k 1 a b
+-- ---- The tree in the tables
 
 -- a sound map whose lengths fit, by some rule of division
 pub record Mapped (lines nodes listings : List ℕ) : Type 0 where
@@ -110,6 +107,13 @@ AtSpot lines nodes listings index later p at = Column lines nodes listings index
 -- the north side of the block that a spot stands at
 abbrev pub northOf : Spot → ℕ
 northOf at = at .block .south .0 + at .block .side
+
+-- ---- A step of the walk
+
+-- the half of a block over p, by its number and its two sons
+pub data StripOver (p : Point) (k : Block) : ℕ → Block → Block → Type 0 where
+  in-west : {a b : Block} → p .x .0 < k .west + k .side / 2 → a ≡ nwOf k → b ≡ swOf k → StripOver p k 0 a b
+  in-east : {a b : Block} → k .west + k .side / 2 ≤ p .x .0 → a ≡ neOf k → b ≡ seOf k → StripOver p k 1 a b
 
 -- the entry of the upper or the lower son over p
 pub data SonEntry (entry : ℕ) : Bool → ℕ → Type 0 where

@@ -20,10 +20,10 @@ ghost use Rattle.column.specs.Asked.{Mapped, OnGrid};
 ghost use Rattle.scan.specs.Asked.{Plain};
 ghost use Rattle.lookup.specs.Asked.{Ready, smaller};
 
-// Walks are paid for, so that no list of points takes more than about a third longer than plain searches of all live lines would.
+// Walks are paid for, so that no list of points takes much more than a quarter longer than plain searches of all live lines would.
 // One is paid for about the time that a plain search takes over 2 lines: a walk costs START to begin with, LEAF for each leaf and
-// 1 for each line of a leaf. A point brings half the live lines if its walk answers, an eighth if a plain search has to. At most
-// MOST is kept.
+// 2 for each line of a leaf, since most lines there have to be compared. A point brings half the live lines if its walk answers,
+// an eighth if a plain search has to. At most MOST is kept.
 const START: usize = 16;
 
 const LEAF: usize = 4;
@@ -69,9 +69,9 @@ fn search_plainly(lines: &[u16], live: &[u16], p: Point, left: usize) -> Reply
 
 // What a leaf of so many lines costs.
 fn cost_of(count: u16) -> usize
-    ensures { λ r. ⌜ r ≡ 4 + count ⌝ }
+    ensures { λ r. ⌜ r ≡ 4 + 2 * count ⌝ }
 {
-    LEAF + (count as usize)
+    LEAF + 2 * (count as usize)
 }
 
 // The answer by a walk of the column of leaves over p, from north to south. What a leaf costs is asked before it is scanned; if
