@@ -76,7 +76,7 @@ build/bench/make-maps: bench/make-maps.c bench/mapfile.c $(BENCH_HEADERS) $(LIB)
 	@mkdir -p build/bench
 	$(BUILD_C) $(filter %.c,$^) $(LIB) $(LDFLAGS) -o $@
 
-build/bench/stack: bench/stack.c include/boundary_map.h $(LIB)
+build/bench/stack: bench/stack.c tests/deepest_fan.h include/boundary_map.h $(LIB)
 	@mkdir -p build/bench
 	$(CC) -std=c11 $(CFLAGS) -Iinclude bench/stack.c $(LIB) $(LDFLAGS) -pthread -o $@
 

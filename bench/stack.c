@@ -1,7 +1,8 @@
-/* How much stack each call needs: a call runs on a stack of its own, painted before and read after. The map is a fan whose
-** rays are in the worst order: at each level the pivot has all others but one to its right, down to the last level. */
+/* How much stack each call needs: a call runs on a stack of its own, painted before and read after. The map is the deepest
+** fan. */
 #define _GNU_SOURCE
 #include "boundary_map.h"
+#include "../tests/deepest_fan.h"
 #include <pthread.h>
 #include <stdio.h>
 #include <stdlib.h>
@@ -10,46 +11,25 @@
 #define STACK (1u << 20)
 #define SLOTS 1024
 #define ENTRIES 16384
-#define RAYS 240
 
 static uint16_t lines[8 * SLOTS], nodes[ENTRIES], listings[ENTRIES];
+static const struct boundary_map map = {lines, 8 * SLOTS, nodes, ENTRIES, listings, ENTRIES};
+#define LENT BOUNDARY_MAP_LENT(&map)
 static uint16_t points[2];
 static uint32_t answers[1];
 static uint64_t result;
 
-static void *do_start(void *u) { result = boundary_map_start(lines, 8 * SLOTS, nodes, ENTRIES, listings, ENTRIES); return u; }
-static void *do_insert(void *u) { result = boundary_map_insert(lines, 8 * SLOTS, nodes, ENTRIES, listings, ENTRIES, 0, 0, 0, 1, 1, 2); return u; }
-static void *do_delete(void *u) { result = boundary_map_delete(lines, 8 * SLOTS, nodes, ENTRIES, listings, ENTRIES, boundary_map_handle(0, 1)); return u; }
-static void *do_locate(void *u) { result = boundary_map_locate(lines, 8 * SLOTS, nodes, ENTRIES, listings, ENTRIES, points, 2, answers, 1); return u; }
+static void *do_start(void *u) { result = boundary_map_start(LENT); return u; }
+static void *do_insert(void *u) { result = boundary_map_insert(LENT, 0, 0, 0, 1, 1, 2); return u; }
+static void *do_delete(void *u) { result = boundary_map_delete(LENT, boundary_map_handle(0, 1)); return u; }
+static void *do_locate(void *u) { result = boundary_map_locate(LENT, points, 2, answers, 1); return u; }
 
-/* The ray of each slot, counted from the north. The pivot of a level is in the middle of the list or, every other level,
-** a quarter down it; it gets the northernmost ray that no slot has yet. Of those before it the last is parted from the
-** list, all north of it. */
-static void order_rays(unsigned ray_of[RAYS]) {
-    unsigned list[RAYS], count = RAYS, next = 0, at;
-    for (unsigned i = 0; i < RAYS; i++) list[i] = i, ray_of[i] = RAYS;
-    for (unsigned depth = 12; depth > 0; depth--) {
-        unsigned kept = 0, pivot = list[depth % 2 == 0 ? count / 2 : count / 4];
-        if (ray_of[pivot] == RAYS) ray_of[pivot] = next++;
-        for (unsigned i = 0; i < count; i++)
-            if (ray_of[list[i]] >= ray_of[pivot]) list[kept++] = list[i];
-        count = kept;
-    }
-    for (at = 0; at < RAYS; at++)
-        if (ray_of[at] == RAYS) ray_of[at] = next++;
-}
-
-/* The hub in a block of 512 steps a side, its rays ending just east of it. */
 static void make_fan(void) {
-    unsigned ray_of[RAYS], west = 8192, side = 512;
-    boundary_map_start(lines, 8 * SLOTS, nodes, ENTRIES, listings, ENTRIES);
+    unsigned ray_of[FAN_RAYS];
+    boundary_map_start(LENT);
     order_rays(ray_of);
-    for (unsigned i = 0; i < RAYS; i++) {
-        uint16_t y = (uint16_t)(west + side - 2 - 2 * ray_of[i]);
-        uint64_t r = boundary_map_insert(lines, 8 * SLOTS, nodes, ENTRIES, listings, ENTRIES, (uint16_t)(west + side / 2),
-                                         (uint16_t)(west + side / 2), (uint16_t)(west + side), y, 1, 2);
-        if (boundary_map_refusal(r)) exit(1);
-    }
+    for (unsigned i = 0; i < FAN_RAYS; i++)
+        if (boundary_map_refusal(insert_ray(&map, ray_of[i]))) exit(1);
 }
 
 static size_t used_by(void *(*call)(void *)) {
