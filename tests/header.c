@@ -1,5 +1,5 @@
 /* The installed header beside the library that is linked: it declares the calls as the tests do, or this does not
- * compile; both are of one version; and its check of a map tells a sound one from a damaged one. */
+ * compile; both are of one version; its check of a map tells a sound one from a damaged one; and a map lent longer goes on. */
 #include "library.h"
 
 #include "../include/boundary_map.h"
@@ -64,6 +64,22 @@ static void label_changed(void)
     EXPECT(boundary_map_check(&map) == BOUNDARY_MAP_DONE);
 }
 
+/* A full map lent longer, with zeros appended: it goes on, handles and all. */
+static void lent_longer(void)
+{
+    struct boundary_map small = { lines, BOUNDARY_MAP_LINES_LEN(1), nodes, 5, listings, 4 };
+
+    memset(lines, 0, sizeof lines);
+    memset(nodes, 0, sizeof nodes);
+    memset(listings, 0, sizeof listings);
+    EXPECT(boundary_map_insert(BOUNDARY_MAP_LENT(&small), 0, 0, 16383, 16383, 7, 9) == 1);
+    EXPECT(boundary_map_refusal(boundary_map_insert(BOUNDARY_MAP_LENT(&small), 0, 1, 0, 9, 7, 9)) == BOUNDARY_MAP_NO_SLOT);
+    EXPECT(boundary_map_check(&map) == BOUNDARY_MAP_DONE);
+    EXPECT(boundary_map_insert(BOUNDARY_MAP_LENT(&map), 0, 16383, 4, 16383, 7, 9) == boundary_map_handle(1, 1));
+    EXPECT(boundary_map_delete(BOUNDARY_MAP_LENT(&map), 1) == 0);
+    EXPECT(boundary_map_refusal(boundary_map_delete(BOUNDARY_MAP_LENT(&map), 1)) == BOUNDARY_MAP_UNKNOWN_HANDLE);
+}
+
 static void conflict_named(void)
 {
     uint64_t refused = boundary_map_insert(BOUNDARY_MAP_LENT(&map), 40, 0, 40, 16383, 7, 9);
@@ -79,6 +95,7 @@ int main(void)
     after_damage();
     label_changed();
     conflict_named();
+    lent_longer();
     printf("header: %d passed, %d failed\n", passed, failed);
     return failed != 0;
 }
