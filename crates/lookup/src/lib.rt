@@ -92,7 +92,7 @@ fn walk_column(
     let mut at = whole_map();
     let mut best = Found::Nothing;
     let mut left = paid;
-    while LEAF <= left {
+    loop {
         at = go_down(nodes, index, later, p, at);
         let node = at.node;
         let cost = cost_of(nodes[node]);
@@ -111,7 +111,6 @@ fn walk_column(
         }
         at = take_up(later, at.by - 1);
     }
-    search_plainly(lines, live, p, left)
 }
 
 // The answer to a point of the grid.

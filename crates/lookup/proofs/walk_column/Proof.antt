@@ -25,7 +25,7 @@ abbrev start : tie.After-whole-map Inv-loop μ-loop → tie.Start Inv-loop μ-lo
 start w = w .before .before .before .before .before .before .before
 
 abbrev turn : tie.After-go-down Inv-loop μ-loop → tie.At-loop Inv-loop μ-loop
-turn g = g .before .before .before
+turn g = g .before .before
 
 abbrev gone : tie.After-cost-of Inv-loop μ-loop → tie.After-go-down Inv-loop μ-loop
 gone c = c .before .before .before .before
@@ -52,7 +52,7 @@ loop-holds : tie.Need-loop-holds Inv-loop μ-loop
 loop-holds c = let s = start c in let a = at-start (s .pre .0 .chart) (s .pre .1) (c .whole-map .ensures) in (a, down-start _ _ _ (omega (arith, s .pre .1 .y-most, ap north (c .whole-map .ensures .1))), refl)
 
 go-down-requires : tie.Need-go-down-requires Inv-loop μ-loop
-go-down-requires c κs = let l = c .before .before in let s = start (l .before) in record { lines = s .args .lines .now; listings = s .args .listings .now; column = l .loop .inv .0; room = l .loop .inv .2 ∙ s .pre .2 }
+go-down-requires c κs = let l = c .before in let s = start (l .before) in record { lines = s .args .lines .now; listings = s .args .listings .now; column = l .loop .inv .0; room = l .loop .inv .2 ∙ s .pre .2 }
 
 mul-cost-of : tie.Need-mul-cost-of Inv-loop μ-loop
 mul-cost-of c = let g = c .before .before in let q = g .go-down .ensures .came .stands (turn g .loop .inv .0) .placed in omega (arith, placed-there q, q .chart .map .few-nodes)
@@ -132,15 +132,6 @@ loop-again c =
     let t = taken (a .put-by) (a .south-of) z (c .take-up .ensures) in
     (t .0, subst (λ (S : ℕ). Down (s .args .lines .now) (s .args .p) S (e .d .given .0 .0)) (sym (t .1)) (on e), g .kept .1 .1 .0 ∙ l .2)
 
-search-plainly-requires-2 : tie.Need-search-plainly-requires-2 Inv-loop μ-loop
-search-plainly-requires-2 c κs = plain (start (c .before .before) .pre .0)
-
-same-length-4 : tie.Need-same-length-4 Inv-loop μ-loop
-same-length-4 c = search needs
-
-returns-4 : tie.Need-returns-4 Inv-loop μ-loop
-returns-4 c = c .search-plainly2 .ensures
-
 pub walk-column-spec : {M : Type 1} → statement M
 walk-column-spec =
     tie.close
@@ -169,7 +160,4 @@ walk-column-spec =
     sub-take-up
     take-up-requires
     loop-less
-    loop-again
-    search-plainly-requires-2
-    same-length-4
-    returns-4)
+    loop-again)
