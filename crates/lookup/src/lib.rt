@@ -20,7 +20,8 @@ ghost use Rattle.column.specs.Asked.{Mapped, OnGrid};
 ghost use Rattle.scan.specs.Asked.{Plain};
 ghost use Rattle.lookup.specs.Asked.{Ready, smaller};
 
-// Walks are paid for, so that no list of points takes much more than a quarter longer than plain searches of all live lines would.
+// Walks are paid for, so that a list of points takes at most about a third longer than plain searches of all live lines would, and
+// half on small maps made against it.
 // One is paid for about the time that a plain search takes over 2 lines: a walk costs START to begin with, LEAF for each leaf and
 // 2 for each line of a leaf, since most lines there have to be compared. A point brings half the live lines if its walk answers,
 // an eighth if a plain search has to. At most MOST is kept.
