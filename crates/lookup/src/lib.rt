@@ -24,7 +24,7 @@ ghost use Rattle.lookup.specs.Asked.{Ready, smaller};
 // half on small maps made against it.
 // One is paid for about the time that a plain search takes over 2 lines: a walk costs START to begin with, LEAF for each leaf and
 // 2 for each line of a leaf, since most lines there have to be compared. A point brings half the live lines if its walk answers,
-// an eighth if a plain search has to. At most MOST is kept.
+// an eighth if a plain search has to, and nothing with fewer than 32: they are searched plainly as a rule. At most MOST is kept.
 const START: usize = 16;
 
 const LEAF: usize = 4;
@@ -64,7 +64,7 @@ fn search_plainly(lines: &[u16], live: &[u16], p: Point, left: usize) -> Reply
 {
     Reply {
         answer: search_all(lines, live, p),
-        left: earn(left, live.len() / 8),
+        left: earn(left, live.len() / 32 * 4),
     }
 }
 
