@@ -4,20 +4,10 @@
 
 #include "../include/boundary_map.h"
 
-#include <stdio.h>
+#define PART "header"
+#include "expect.h"
+
 #include <string.h>
-
-static int passed, failed;
-
-static void expect(int holds, const char *what)
-{
-    passed += holds != 0;
-    failed += holds == 0;
-    if (!holds)
-        printf("header: not so: %s\n", what);
-}
-
-#define EXPECT(condition) expect((condition), #condition)
 
 static uint16_t lines[BOUNDARY_MAP_LINES_LEN(2)], nodes[64], listings[64];
 
@@ -96,6 +86,5 @@ int main(void)
     label_changed();
     conflict_named();
     lent_longer();
-    printf("header: %d passed, %d failed\n", passed, failed);
-    return failed != 0;
+    return tallied(PART);
 }

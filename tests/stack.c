@@ -5,25 +5,16 @@
 
 #include "deepest_fan.h"
 
+#define PART "stack"
+#include "expect.h"
+
 #include <pthread.h>
-#include <stdio.h>
 #include <stdlib.h>
 
 static uint16_t lines[BOUNDARY_MAP_LINES_MAX], nodes[BOUNDARY_MAP_NODES_MAX], listings[BOUNDARY_MAP_LISTINGS_MAX];
 static const struct boundary_map map = { lines, BOUNDARY_MAP_LINES_MAX, nodes, BOUNDARY_MAP_NODES_MAX,
                                          listings, BOUNDARY_MAP_LISTINGS_MAX };
 static unsigned ray_of[FAN_RAYS];
-static int passed, failed;
-
-static void expect(int holds, const char *what)
-{
-    passed += holds != 0;
-    failed += holds == 0;
-    if (!holds)
-        printf("stack: not so: %s\n", what);
-}
-
-#define EXPECT(condition) expect((condition), #condition)
 
 static void *all_calls(void *nothing)
 {
@@ -64,6 +55,5 @@ int main(void)
     EXPECT(pthread_attr_getguardsize(&attributes, &guard) == 0 && guard > 0);
     EXPECT(pthread_create(&thread, &attributes, all_calls, NULL) == 0);
     EXPECT(pthread_join(thread, NULL) == 0);
-    printf("stack: %d passed, %d failed\n", passed, failed);
-    return failed != 0;
+    return tallied(PART);
 }
