@@ -7,6 +7,7 @@ use geometry::north_west;
 use geometry::reaches;
 use geometry::south_east;
 use geometry::south_west;
+use geometry::whole_map;
 use meaning::Found;
 use scan::Scan;
 use scan::answer_below;
@@ -43,16 +44,12 @@ pub struct Spot {
 }
 
 // The whole map, with nothing put by.
-pub fn whole_map() -> Spot
+pub fn first_spot() -> Spot
     ensures { λ r. ⌜ (r .node ≡ 0) × (blockOf (r .block) ≡ wholeMap) × (r .by ≡ 0) ⌝ }
 {
     Spot {
         node: 0,
-        block: Block {
-            west: Half(0),
-            south: Half(0),
-            side: 32768,
-        },
+        block: whole_map(),
         by: 0,
     }
 }

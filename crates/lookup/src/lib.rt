@@ -1,9 +1,9 @@
 // The answers to points: a walk of the column of leaves over each; where that costs more than walks have earned, a plain search.
 use column::Walk;
+use column::first_spot;
 use column::go_down;
 use column::take_up;
 use column::walk_spot;
-use column::whole_map;
 use definitions::Point;
 use geometry::on_grid;
 use geometry::point_of;
@@ -90,7 +90,7 @@ fn walk_column(
     requires { ⌜ Ready (now lines) (now nodes) (now listings) (now index) (now live) × OnGrid p × (length (now later) ≡ 64) ⌝ }
     ensures { λ r. ⌜ r .answer ≡ answerAt (now (lines .entry)) p ⌝ }
 {
-    let mut at = whole_map();
+    let mut at = first_spot();
     let mut best = Found::Nothing;
     let mut left = paid;
     loop {

@@ -1,12 +1,12 @@
 // The build walk.
 use candidates::Span;
 use candidates::spread;
-use definitions::Half;
 use geometry::Block;
 use geometry::north_east;
 use geometry::north_west;
 use geometry::south_east;
 use geometry::south_west;
+use geometry::whole_map;
 use rule::left_whole;
 use tables::Place;
 use tables::copy;
@@ -16,7 +16,6 @@ ghost use mathlib.Core.List.{[], _∷_};
 ghost use Prim.Native.Nat.{suc, _≤_, _<_};
 ghost use lib.ListN.{length};
 ghost use lib.Seq.{slice};
-ghost use Rattle.definitions.specs.Shape.{wholeMap};
 ghost use Rattle.geometry.specs.Means.{blockOf};
 ghost use Rattle.tree.specs.Builds.{GoodTable, Ready, BuiltIs, Grown, blockNodes, blockListings, sonsNodes, sonsListings, TreeBuilt};
 
@@ -120,16 +119,6 @@ pub fn build_sons(
         return Built::NoRoom;
     };
     build_block(lines, slots, s.se, south_east(k), level, nodes, listings, r)
-}
-
-pub fn whole_map() -> Block
-    ensures { λ r. ⌜ blockOf r ≡ wholeMap ⌝ }
-{
-    Block {
-        west: Half(0),
-        south: Half(0),
-        side: 32768,
-    }
 }
 
 // The tree of the live lines, from the start of both tables.

@@ -2,6 +2,7 @@
 use definitions::Half;
 use definitions::Point;
 use tables::Place;
+use tables::wide;
 ghost use mathlib.Core.Path.{_≡_};
 ghost use Prim.Native.Nat.{ℕ, _+_, _*_, _≤_, _<_};
 ghost use lib.ListN.{length};
@@ -22,12 +23,6 @@ struct Son {
     west: u16,
     south: u16,
     which: usize,
-}
-
-fn wide(x: u16) -> usize
-    ensures { λ r. ⌜ r ≡ x ⌝ }
-{
-    x as usize
 }
 
 // Four entries of a table, in its place n.

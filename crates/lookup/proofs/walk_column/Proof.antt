@@ -21,7 +21,7 @@ abbrev μ-loop : tie.MeasureT-loop
 
 -- ---- The places of a turn
 
-abbrev start : tie.After-whole-map Inv-loop μ-loop → tie.Start Inv-loop μ-loop
+abbrev start : tie.After-first-spot Inv-loop μ-loop → tie.Start Inv-loop μ-loop
 start w = w .before .before .before .before .before .before .before
 
 abbrev turn : tie.After-go-down Inv-loop μ-loop → tie.At-loop Inv-loop μ-loop
@@ -45,11 +45,11 @@ plain r = record { slots = r .chart .map .sound .slots; apart = r .chart .map .s
 
 -- ---- The needs
 
-whole-map-requires : tie.Need-whole-map-requires Inv-loop μ-loop
-whole-map-requires c κs = search needs
+first-spot-requires : tie.Need-first-spot-requires Inv-loop μ-loop
+first-spot-requires c κs = search needs
 
 loop-holds : tie.Need-loop-holds Inv-loop μ-loop
-loop-holds c = let s = start c in let a = at-start (s .pre .0 .chart) (s .pre .1) (c .whole-map .ensures) in (a, down-start _ _ _ (omega (arith, s .pre .1 .y-most, ap north (c .whole-map .ensures .1))), refl)
+loop-holds c = let s = start c in let a = at-start (s .pre .0 .chart) (s .pre .1) (c .first-spot .ensures) in (a, down-start _ _ _ (omega (arith, s .pre .1 .y-most, ap north (c .first-spot .ensures .1))), refl)
 
 go-down-requires : tie.Need-go-down-requires Inv-loop μ-loop
 go-down-requires c κs = let l = c .before in let s = start (l .before) in record { lines = s .args .lines .now; listings = s .args .listings .now; column = l .loop .inv .0; room = l .loop .inv .2 ∙ s .pre .2 }
@@ -138,7 +138,7 @@ walk-column-spec =
     (tie.spec
     Inv-loop
     μ-loop
-    whole-map-requires
+    first-spot-requires
     loop-holds
     go-down-requires
     mul-cost-of

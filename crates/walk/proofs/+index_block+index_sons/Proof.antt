@@ -16,7 +16,7 @@ use Rattle.walk.proofs.index_sons.Reads as index-sons
 use Rattle.walk.proofs.index_sons.Kinds as index-sons-kinds
 use Rattle.walk.proofs.+index_block+index_sons.Lts-index_sons as index-sons-lts
 use Rattle.walk.proofs.put_four.Reads as put-four-reads
-use Rattle.walk.proofs.wide.Reads as wide-reads
+use Rattle.tables.proofs.wide.Reads as wide-reads
 use Rattle.walk.proofs.+index_block+index_sons.{statement}
 use Rattle.walk.proofs.+index_block+index_sons.Tie.{close}
 
