@@ -9,7 +9,7 @@ use lib.ListN.{length, getD, take, drop, length-append}
 use lib.Seq.{take-at, drop-at}
 use Rattle.definitions.specs.declared.Point.{Point}
 use Rattle.definitions.specs.Shape.{Line, Block, north}
-use Rattle.definitions.specs.Tree.{Rule, Tree, leaf, divided, block, listed, tree, treeBy, nodesOf, listingsOf}
+use Rattle.definitions.specs.Tree.{Rule, Tree, leaf, divided, block, listed, treeBy, nodesOf, listingsOf}
 use Rattle.definitions.specs.Tables.{liveLines}
 use Rattle.meaning.specs.declared.Found.{Found}
 use Rattle.meaning.specs.Blocks.{double, half-power, some-power}

@@ -1,5 +1,5 @@
 -- The laws of the answers to pairs of grid numbers, one after another.
-use mathlib.Core.Path.{_≡_, refl, sym, ap, ap₂, _∙_}
+use mathlib.Core.Path.{_≡_, sym, ap, ap₂, _∙_}
 use mathlib.Core.Bool.{Bool, true, _&&_}
 use mathlib.Core.List.{List, _∷_, _++_, append-nil}
 use Prim.Native.Nat.{ℕ, suc, _+_, _*_, _≤_, _<_}
@@ -8,7 +8,7 @@ use native.Mathlib.Omega.{arith}
 use lib.Dec.{leb}
 use lib.ListN.{length, take, drop, getD, set, drop-of-length-le, length-take}
 use lib.Seq.{drop-cons, take-suc-set, take-all, append-snoc}
-use borrow.Author.Tests.{leb-true, lt-ltb, le-ltb}
+use borrow.Author.Tests.{leb-true}
 use Rattle.algebra.specs.Words.{if_then_else_}
 use Rattle.algebra.specs.Tests.{both→}
 use Rattle.definitions.specs.declared.Point.{Point}
@@ -16,16 +16,6 @@ use Rattle.definitions.specs.Shape.{gridPoint}
 use Rattle.definitions.specs.Lookup.{answerAt, answerTo, answersTo}
 use Rattle.tables.specs.Slots.{LiveFront}
 use Rattle.column.specs.Asked.{OnGrid}
-use Rattle.lookup.specs.Asked.{smaller}
-
--- ---- What is left for the next walk
-
-module _ (a b : ℕ) where
-  pub smaller-first : a < b → a ≡ smaller a b
-  smaller-first h = rw (lt-ltb a b h) refl
-
-  pub smaller-second : b ≤ a → b ≡ smaller a b
-  smaller-second h = rw (le-ltb a b h) refl
 
 -- ---- One pair
 

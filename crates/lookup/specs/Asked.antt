@@ -2,13 +2,8 @@
 use mathlib.Core.Path.{_≡_}
 use mathlib.Core.List.{List}
 use Prim.Native.Nat.{ℕ}
-use lib.Dec.{ltb}
-use Rattle.algebra.specs.Words.{if_then_else_}
 use Rattle.definitions.specs.Tables.{liveSlots}
 use Rattle.column.specs.Asked.{Charted}
-
-abbrev pub smaller : ℕ → ℕ → ℕ
-smaller a b = if ltb a b then a else b
 
 -- a charted map, and its live slots
 pub record Ready (lines nodes listings index live : List ℕ) : Type 0 where

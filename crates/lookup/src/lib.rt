@@ -13,12 +13,12 @@ use scan::search_all;
 use tables::live_slots;
 use walk::index_nodes;
 ghost use mathlib.Core.Path.{_≡_};
-ghost use Prim.Native.Nat.{_+_, _*_};
+ghost use Prim.Native.Nat.{_+_, _*_, min};
 ghost use lib.ListN.{length};
 ghost use Rattle.definitions.specs.Lookup.{answerAt, answerTo, answersTo};
 ghost use Rattle.column.specs.Asked.{Mapped, OnGrid};
 ghost use Rattle.scan.specs.Asked.{Plain};
-ghost use Rattle.lookup.specs.Asked.{Ready, smaller};
+ghost use Rattle.lookup.specs.Asked.{Ready};
 
 // Walks are paid for, so that a list of points takes at most about a third longer than plain searches of all live lines would, and
 // half on small maps made against it.
@@ -39,7 +39,7 @@ struct Reply {
 
 // What is left for the next walk.
 fn earn(left: usize, more: usize) -> usize
-    ensures { λ r. ⌜ r ≡ smaller (left + more) 512 ⌝ }
+    ensures { λ r. ⌜ r ≡ min (left + more) 512 ⌝ }
 {
     if left < MOST {
         if more < MOST - left {

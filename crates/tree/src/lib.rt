@@ -11,7 +11,6 @@ use rule::left_whole;
 use tables::Place;
 use tables::copy;
 use tables::live_slots;
-ghost use mathlib.Core.Path.{_≡_};
 ghost use mathlib.Core.List.{[], _∷_};
 ghost use Prim.Native.Nat.{suc, _≤_, _<_};
 ghost use lib.ListN.{length};
