@@ -18,7 +18,7 @@ use Rattle.geometry.specs.declared.Line as code
 use Rattle.geometry.specs.Means.{lineOf, pointBy}
 use Rattle.meaning.specs.declared.Found.{Found}
 use Rattle.meaning.specs.declared.Found.the-variants.{Nothing, At}
-use Rattle.meaning.specs.Compare.{order}
+use Rattle.plane.specs.Compare.{order}
 use Rattle.meaning.specs.Answering.{through-is, none-through}
 use Rattle.meaning.specs.Best.{aheadByTurns, scan}
 use Rattle.meaning.specs.Column.{listed→, labelOf, answer-found}

@@ -12,7 +12,7 @@ use Rattle.definitions.specs.Shape.{Line, Block, north}
 use Rattle.definitions.specs.Tree.{Rule, Tree, leaf, divided, block, listed, treeBy, nodesOf, listingsOf}
 use Rattle.definitions.specs.Tables.{liveLines}
 use Rattle.meaning.specs.declared.Found.{Found}
-use Rattle.meaning.specs.Blocks.{double, half-power, some-power}
+use Rattle.plane.specs.Blocks.{double, half-power, some-power}
 use Rattle.meaning.specs.Rules.{by-leaf, by-divided, sonsBy}
 use Rattle.walk.specs.Index.{afterNodes, afterListings, neFirst, swFirst, seFirst, Stands, leaf-stands, sons-stand, Indexed, leaf-indexed, sons-indexed}
 use Rattle.walk.specs.Placing.{divided-nodes, divided-listings}

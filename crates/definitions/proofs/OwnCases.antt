@@ -4,10 +4,11 @@ use mathlib.Core.List.{List, [], _∷_, _++_}
 use Prim.Native.Nat.{ℕ}
 use Rattle.algebra.specs.Words.{those, every, upFrom, sameList, padded}
 use Rattle.definitions.specs.declared.Answer.the-variants.{Done, Lengths, Damaged, OffGrid, NoLength, Conflict, NoSlot, NoRoom, UnknownHandle}
-use Rattle.definitions.specs.Shape.{turn, leftOf, rightOf, corners, meets, inside, samePoint, isEnd, on, within, parts, conflict}
+use Rattle.definitions.specs.declared.Kind.the-variants.{Crossing, Touching, Overlap, Same}
+use Rattle.definitions.specs.Shape.{turn, leftOf, rightOf, corners, meets, inside, samePoint, isEnd, on, within, parts, conflict, inLineOf, kindOf}
 use Rattle.definitions.specs.Tree.{baseRule, treeBy, endsOf, simpleWith, simple, listed, tree, nodesOf, listingsOf}
 use Rattle.definitions.specs.Tables.{Tables, lengthsFit, slotsOf, isLive, lineAt, liveSlots, liveLines, liveSound, emptySound, slotSound, noneConflict, nodeTable, listingTable, sound}
-use Rattle.definitions.specs.Calls.{numberOf, reply, rebuilt, withSlot, cleared, startOf, givenLine, allOnGrid, noLength, conflicting, freeSlots, placed, roomFor, insertOf, known, freed, deleteOf}
+use Rattle.definitions.specs.Calls.{numberOf, kindNumber, reply, rebuilt, withSlot, cleared, startOf, givenLine, allOnGrid, noLength, conflicting, conflictDetail, freeSlots, placed, roomFor, insertOf, known, freed, deleteOf}
 use Rattle.definitions.specs.Lookup.{Showing, below, run, heightOver, rise, higher, highest, upperLabel, answerAt, answerTo, answersTo, locateOf, leafAt, leafOver, showOf}
 use Rattle.definitions.specs.History.{delete, locate, show, replyTo, afterAll, numbers}
 use Rattle.definitions.proofs.Cases.{zeros, fresh, labelled, line, refusal}
@@ -70,8 +71,15 @@ pub record OwnCases : Type 0 where
   pub damaged : numbers baseRule (record { lines = zeros 8; nodes = 0 ∷ 1 ∷ []; listings = [] }) (line 0 0 1 1 ∷ delete 1 ∷ locate [] [] ∷ show 0 0 ∷ []) ≡ refusal 2 0 ∷ refusal 2 0 ∷ refusal 2 0 ∷ refusal 2 0 ∷ []
   pub offGrid : numbers baseRule (twoSides 4) (line 16384 0 0 0 ∷ line 16384 0 16384 0 ∷ show 0 16384 ∷ []) ≡ refusal 3 0 ∷ refusal 3 0 ∷ refusal 3 0 ∷ []
   pub noLength : numbers baseRule (twoSides 4) (line 5 5 5 5 ∷ line 0 5 0 5 ∷ []) ≡ refusal 4 0 ∷ refusal 4 0 ∷ []
-  pub conflicts : numbers baseRule (twoSides 4) (line 16383 9 0 9 ∷ line 16382 9 16383 9 ∷ []) ≡ refusal 5 0 ∷ refusal 5 2 ∷ []
-  pub noSlot : numbers baseRule threeSides (line 5 5 6 6 ∷ line 0 5 6 6 ∷ []) ≡ refusal 6 0 ∷ refusal 5 0 ∷ []
+  pub conflicts : numbers baseRule (twoSides 4) (line 16383 9 0 9 ∷ line 16382 9 16383 9 ∷ []) ≡ refusal 5 131072 ∷ refusal 5 131074 ∷ []
+  -- 5's detail: the number of each kind, and on a map of three lines; crossing; touching, with an end of either; overlap, from within, from a common end and past
+  -- both ends; same, also reversed; and of two lines in the way the first's kind, not the graver one's
+  pub kinds : kindNumber Crossing ∷ kindNumber Touching ∷ kindNumber Overlap ∷ kindNumber Same ∷ [] ≡ 1 ∷ 2 ∷ 3 ∷ 4 ∷ []
+  pub crossed : numbers baseRule threeWays (line 5000 8000 6000 9000 ∷ line 6000 9000 5001 8000 ∷ []) ≡ refusal 5 65537 ∷ refusal 5 65537 ∷ []
+  pub touched : numbers baseRule threeWays (line 5000 8192 6000 9000 ∷ line 0 8000 0 9000 ∷ line 700 9 0 1 ∷ []) ≡ refusal 5 131073 ∷ refusal 5 131073 ∷ refusal 5 131074 ∷ []
+  pub overlapped : numbers baseRule threeWays (line 5000 8192 6000 8192 ∷ line 0 8192 1 8192 ∷ line 0 4001 0 1 ∷ line 0 16383 0 0 ∷ []) ≡ refusal 5 196609 ∷ refusal 5 196609 ∷ refusal 5 196610 ∷ refusal 5 131073 ∷ []
+  pub sames : numbers baseRule threeWays (line 0 0 16383 0 ∷ line 16383 0 0 0 ∷ line 0 8192 16383 8192 ∷ line 0 4000 0 0 ∷ []) ≡ refusal 5 262144 ∷ refusal 5 262144 ∷ refusal 5 262145 ∷ refusal 5 262146 ∷ []
+  pub noSlot : numbers baseRule threeSides (line 5 5 6 6 ∷ line 0 5 6 6 ∷ []) ≡ refusal 6 0 ∷ refusal 5 131072 ∷ []
   pub noRoom : numbers baseRule (twoSides 4) (line 5 5 6 6 ∷ []) ≡ refusal 7 0 ∷ []
   pub unknown : numbers baseRule (twoSides 4) (delete 1 ∷ delete 65540 ∷ delete 196609 ∷ delete 131079 ∷ []) ≡ refusal 8 0 ∷ refusal 8 0 ∷ refusal 8 0 ∷ 0 ∷ []
   -- seven calls, each on what the one before left
@@ -81,6 +89,6 @@ pub record OwnCases : Type 0 where
   pub runOnly : showOf baseRule (afterAll baseRule (fresh 4 200 200) (line 0 0 8 8 ∷ line 0 0 8 7 ∷ line 4 7 5 7 ∷ delete 131073 ∷ [])) 0 0 ≡ shows 16 0 0 2 (0 ∷ 1 ∷ [])
 
 pub ownCases : OwnCases
-unfolding those every upFrom sameList turn leftOf rightOf corners meets inside samePoint isEnd on within parts conflict endsOf simpleWith simple listed tree nodesOf listingsOf padded lengthsFit slotsOf isLive lineAt liveSlots liveLines liveSound emptySound slotSound noneConflict nodeTable listingTable sound rebuilt withSlot cleared startOf givenLine allOnGrid noLength conflicting freeSlots placed roomFor insertOf known freed deleteOf below run heightOver rise higher highest upperLabel answerAt answerTo answersTo locateOf leafAt leafOver showOf replyTo afterAll numbers baseRule treeBy
+unfolding those every upFrom sameList turn leftOf rightOf corners meets inside samePoint isEnd on within parts conflict inLineOf kindOf endsOf simpleWith simple listed tree nodesOf listingsOf padded lengthsFit slotsOf isLive lineAt liveSlots liveLines liveSound emptySound slotSound noneConflict nodeTable listingTable sound rebuilt withSlot cleared startOf givenLine allOnGrid noLength conflicting conflictDetail freeSlots placed roomFor insertOf known freed deleteOf below run heightOver rise higher highest upperLabel answerAt answerTo answersTo locateOf leafAt leafOver showOf replyTo afterAll numbers baseRule treeBy
 ownCases =
-    record { start = refl; upright = refl; fanNodes = refl; fanListings = refl; leafNW = refl; leafNE = refl; leafSW = refl; leafSE = refl; leafEmpty = refl; between = refl; emptied = refl; seven = refl; refusals = refl; lengths = refl; startLengths = refl; lists = refl; damaged = refl; offGrid = refl; noLength = refl; conflicts = refl; noSlot = refl; noRoom = refl; unknown = refl; sevenCalls = refl; sevenLeft = refl; runOnly = refl }
+    record { start = refl; upright = refl; fanNodes = refl; fanListings = refl; leafNW = refl; leafNE = refl; leafSW = refl; leafSE = refl; leafEmpty = refl; between = refl; emptied = refl; seven = refl; refusals = refl; lengths = refl; startLengths = refl; lists = refl; damaged = refl; offGrid = refl; noLength = refl; conflicts = refl; kinds = refl; crossed = refl; touched = refl; overlapped = refl; sames = refl; noSlot = refl; noRoom = refl; unknown = refl; sevenCalls = refl; sevenLeft = refl; runOnly = refl }

@@ -8,7 +8,9 @@ use Rattle.algebra.specs.Words.{those, if_then_else_}
 use Rattle.definitions.specs.declared.Answer.{Answer}
 use Rattle.definitions.specs.declared.Answer.the-variants.{Done, Lengths, Damaged, OffGrid, NoLength, Conflict, NoSlot, NoRoom, UnknownHandle}
 use Rattle.definitions.specs.declared.Given.{Given}
-use Rattle.definitions.specs.Shape.{Line, gridPoint, conflict}
+use Rattle.definitions.specs.declared.Kind.{Kind}
+use Rattle.definitions.specs.declared.Kind.the-variants.{Crossing, Touching, Overlap, Same}
+use Rattle.definitions.specs.Shape.{Line, gridPoint, conflict, kindOf}
 use Rattle.definitions.specs.Tree.{Rule, tree, nodesOf, listingsOf}
 use Rattle.definitions.specs.Tables.{Tables, lengthsFit, sound, generation, isLive, slotsOf, lineAt, liveLines, onGrid, nodeTable, listingTable}
 
@@ -19,7 +21,7 @@ refusalOf Lengths = 1
 refusalOf Damaged = 2
 refusalOf OffGrid = 3
 refusalOf NoLength = 4
-refusalOf (Conflict s) = 5
+refusalOf (Conflict d) = 5
 refusalOf NoSlot = 6
 refusalOf NoRoom = 7
 refusalOf UnknownHandle = 8
@@ -30,7 +32,7 @@ detailOf Lengths = 0
 detailOf Damaged = 0
 detailOf OffGrid = 0
 detailOf NoLength = 0
-detailOf (Conflict s) = s
+detailOf (Conflict d) = d
 detailOf NoSlot = 0
 detailOf NoRoom = 0
 detailOf UnknownHandle = 0
@@ -75,6 +77,17 @@ noLength g = eqb (g .x1) (g .x2) && eqb (g .y1) (g .y2)
 unfoldable pub conflicting : List ℕ → Given → List ℕ
 conflicting lines g = those (λ s. isLive lines s && conflict (lineAt lines s) (givenLine g)) (slotsOf lines)
 
+-- the paper's number for each kind
+abbrev pub kindNumber : Kind → ℕ
+kindNumber Crossing = 1
+kindNumber Touching = 2
+kindNumber Overlap = 3
+kindNumber Same = 4
+
+-- the detail of 5: how the line of slot s conflicts with the given one, and the slot
+unfoldable pub conflictDetail : List ℕ → ℕ → Given → ℕ
+conflictDetail lines s g = kindNumber (kindOf (lineAt lines s) (givenLine g)) * 65536 + s
+
 -- the slots that are neither live nor retired, rising
 unfoldable pub freeSlots : List ℕ → List ℕ
 freeSlots lines = those (λ s. not (isLive lines s) && ltb (generation lines s) 65535) (slotsOf lines)
@@ -116,7 +129,7 @@ module _ (rule : Rule) where
       if not (allOnGrid g) then reply OffGrid t else
       if noLength g then reply NoLength t else
       elim (conflicting (t .lines) g) [
-        | s ∷ more ↦ reply (Conflict s) t
+        | s ∷ more ↦ reply (Conflict (conflictDetail (t .lines) s g)) t
         | [] ↦
             elim (freeSlots (t .lines)) [
               | [] ↦ reply NoSlot t

@@ -8,6 +8,8 @@ use lib.ListN.{length, getD}
 use native.Mathlib.Omega.{arith}
 use Rattle.algebra.specs.Words.{Rising}
 use Rattle.definitions.specs.declared.Point.{Point}
+use Rattle.definitions.specs.declared.Kind.{Kind}
+use Rattle.definitions.specs.declared.Kind.the-variants.{Crossing, Touching, Overlap, Same}
 use Rattle.definitions.specs.Shape.{Line, Block, east, north, nwOf, neOf, swOf, seOf, gridPoint, minX, maxX, minY, maxY}
 use Rattle.definitions.specs.Tree.{Rule, Tree, leaf, divided, tree, listingsOf}
 use Rattle.definitions.specs.Tables.{Tables, entry, live, generation, x1, y1, x2, y2, leftLabel, rightLabel, lineAt, liveLines}
@@ -57,6 +59,43 @@ Meets k l = (s : Spot) × OnLine s l × InBlock s k
 -- the lines share a point that isn't an end of both
 abbrev pub Conflicts : Line → Line → Type 0
 Conflicts l m = (s : Spot) × OnLine s l × OnLine s m × ¬ (AtEnd s l × AtEnd s m)
+
+-- ---- How lines conflict
+
+-- the two spots are one point
+pub record SameSpot (s t : Spot) : Type 0 where
+  pub sameX : s .X * t .Z ≡ t .X * s .Z
+  pub sameY : s .Y * t .Z ≡ t .Y * s .Z
+
+pub record Shared (s : Spot) (l m : Line) : Type 0 where
+  pub onFirst : OnLine s l
+  pub onSecond : OnLine s m
+
+-- one shared point, s
+pub record OnlyShared (s : Spot) (l m : Line) : Type 0 where
+  pub shared : Shared s l m
+  pub only : (t : Spot) → Shared t l m → SameSpot t s
+
+-- more than one shared point
+pub record TwoShared (l m : Line) : Type 0 where
+  pub one : Spot
+  pub other : Spot
+  pub oneShared : Shared one l m
+  pub otherShared : Shared other l m
+  pub differ : ¬ SameSpot one other
+
+-- equal ends in either order
+abbrev pub SameEnds : Line → Line → Type 0
+SameEnds l m = ((l .a ≡ m .a) × (l .b ≡ m .b)) ⊎ ((l .a ≡ m .b) × (l .b ≡ m .a))
+
+abbrev pub KindIs : Line → Line → Kind → Type 0
+-- one shared point, inside both
+KindIs l m Crossing = (s : Spot) × OnlyShared s l m × ¬ AtEnd s l × ¬ AtEnd s m
+-- one shared point, an end of exactly one
+KindIs l m Touching = (s : Spot) × OnlyShared s l m × ((AtEnd s l × ¬ AtEnd s m) ⊎ (¬ AtEnd s l × AtEnd s m))
+-- more than one shared point, and not the same
+KindIs l m Overlap = TwoShared l m × ¬ SameEnds l m
+KindIs l m Same = SameEnds l m
 
 -- ---- The rule of division, and the tree that it leaves
 

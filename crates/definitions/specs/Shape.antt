@@ -3,10 +3,12 @@ use mathlib.Core.Bool.{Bool, not, _&&_, _||_}
 use Prim.Native.Nat.{ℕ, _+_, _*_, _/_, min, max}
 use lib.Dec.{leb, eqb}
 use lib.IntN.{ℤ, subℕ, _*ℤ_, _-ℤ_}
-use Rattle.algebra.specs.Words.{isPositive, isNegative, isZero}
+use Rattle.algebra.specs.Words.{isPositive, isNegative, isZero, if_then_else_}
 use Rattle.definitions.specs.declared.Grid.{Grid}
 use Rattle.definitions.specs.declared.Half.{Half}
 use Rattle.definitions.specs.declared.Point.{Point}
+use Rattle.definitions.specs.declared.Kind.{Kind}
+use Rattle.definitions.specs.declared.Kind.the-variants.{Crossing, Touching, Overlap, Same}
 
 -- ---- Two scales
 
@@ -128,3 +130,17 @@ conflict l m =
     within (l .a) m || within (l .b) m || within (m .a) l || within (m .b) l
     || parts l m && parts m l
     || isEnd (l .a) m && isEnd (l .b) m
+
+-- ---- How lines conflict
+
+-- both ends of m lie in the straight line of l
+unfoldable pub inLineOf : Line → Line → Bool
+inLineOf l m = isZero (turn (l .a) (l .b) (m .a)) && isZero (turn (l .a) (l .b) (m .b))
+
+-- of lines that conflict: equal ends in either order; else in one straight line; else each parts the other; else an end of one lies within the other
+unfoldable pub kindOf : Line → Line → Kind
+kindOf l m =
+    if isEnd (l .a) m && isEnd (l .b) m then Same else
+    if inLineOf l m then Overlap else
+    if parts l m && parts m l then Crossing else
+    Touching

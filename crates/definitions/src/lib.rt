@@ -21,6 +21,14 @@ pub struct Given {
     pub right: u16,
 }
 
+// How two lines conflict.
+pub enum Kind {
+    Crossing,
+    Touching,
+    Overlap,
+    Same,
+}
+
 // What a call answers: done with its detail, or a refusal.
 pub enum Answer {
     Done(u32),

@@ -18,8 +18,8 @@ use Rattle.definitions.specs.Shape.{conflict}
 use Rattle.definitions.specs.Tables.{Tables, lengthsFit, live, generation, isLive, lineAt, liveLines, onGrid, sound}
 use Rattle.definitions.specs.Tree.{Rule, tree, nodesOf, listingsOf}
 use Rattle.meaning.specs.Chain.{Each, chain→, chain←, chain-fails, fails, not-means, both-means, eqb-means}
-use Rattle.meaning.specs.Compare.{order}
-use Rattle.meaning.specs.Crossing.{Proper, conflict-iff}
+use Rattle.plane.specs.Compare.{order}
+use Rattle.plane.specs.Crossing.{Proper, conflict-iff}
 use Rattle.meaning.specs.SoundMeans.{sound-means}
 use Rattle.history.specs.Refusals.{Some, Lowest, FitLengths, WrongLengths, WrongLists, tables, odd, notHalf, Unsound, AboveGrid, EndsEqual, InTheWay, Retired, AllTaken, Vacant, NeedsMore, Unknown, beyond, notLive, otherGeneration}
 

@@ -4,12 +4,14 @@ use mathlib.Core.Logic.{_↔_}
 use mathlib.Core.Bool.{true}
 use mathlib.Core.List.{List, [], _∷_, _++_, map, List·Memᴰ}
 use Prim.Native.Nat.{ℕ, _+_, _*_}
+use lib.Dec.{eqb}
+use Rattle.algebra.specs.Words.{if_then_else_}
 use Rattle.definitions.specs.declared.Answer.{Answer}
-use Rattle.definitions.specs.declared.Answer.the-variants.{Done, Lengths, Damaged, OffGrid, NoLength, Conflict, NoSlot, NoRoom, UnknownHandle}
+use Rattle.definitions.specs.declared.Answer.the-variants.{Done, UnknownHandle}
 use Rattle.definitions.specs.declared.Given.{Given}
 use Rattle.definitions.specs.Tree.{Rule, Tree, leaf, divided, tree}
 use Rattle.definitions.specs.Tables.{Tables, lengthsFit, generation, x1, y1, x2, y2, leftLabel, rightLabel, liveSlots, liveLines, sound}
-use Rattle.definitions.specs.Calls.{Reply, cleared, insertOf, deleteOf, refusalOf}
+use Rattle.definitions.specs.Calls.{Reply, cleared, insertOf, deleteOf, refusalOf, detailOf}
 use Rattle.definitions.specs.History.{Call, insert, delete, locate, show, replyTo, afterAll}
 
 -- ---- What the calls say
@@ -21,15 +23,7 @@ pub record Heard : Type 0 where
 
 -- the number that a call gives, if it is an accepted insert
 abbrev pub givenNow : Call → Answer → List ℕ
-givenNow (insert g) (Done h) = h ∷ []
-givenNow (insert g) Lengths = []
-givenNow (insert g) Damaged = []
-givenNow (insert g) OffGrid = []
-givenNow (insert g) NoLength = []
-givenNow (insert g) (Conflict s) = []
-givenNow (insert g) NoSlot = []
-givenNow (insert g) NoRoom = []
-givenNow (insert g) UnknownHandle = []
+givenNow (insert g) r = if eqb (refusalOf r) 0 then detailOf r ∷ [] else []
 givenNow (delete h) r = []
 givenNow (locate ps as′) r = []
 givenNow (show x y) r = []
@@ -59,7 +53,7 @@ pub record Held : Type 0 where
 
 -- the call was an accepted insert of this line, and gave this handle
 abbrev pub Gave : Heard → Held → Type 0
-Gave c i = (c .call ≡ insert (i .line)) × (c .answer ≡ Done (i .handle))
+Gave c i = (c .call ≡ insert (i .line)) × (refusalOf (c .answer) ≡ 0) × (detailOf (c .answer) ≡ i .handle)
 
 -- the call was an accepted delete of this handle
 abbrev pub Took : Heard → ℕ → Type 0

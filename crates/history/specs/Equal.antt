@@ -9,7 +9,7 @@ use Rattle.definitions.specs.Shape.{within, Line, Block, samePoint, isEnd, conf
 use Rattle.definitions.specs.Tables.{Tables, liveSlots, lineAt, liveLines, noneConflict}
 use Rattle.definitions.specs.Tree.{listed, block, tree, Rule, treeBy}
 use Rattle.meaning.specs.Fair.{SameEnds, Within, Once, noLine, newLine, Fair}
-use Rattle.meaning.specs.Ends.{same-refl}
+use Rattle.plane.specs.Ends.{same-refl}
 use Rattle.meaning.specs.Leaves.{listed-iff}
 use Rattle.meaning.specs.Means.{slots-rising}
 use Rattle.meaning.specs.Rules.{by-leaf, by-divided, sonsBy, meets-ends}

@@ -5,13 +5,13 @@ use Rattle.definitions.specs.declared.Given.{Given}
 use Rattle.algebra.specs.Lists.{of-those, in-those, every→, every←, padded-length}
 use Rattle.algebra.specs.Tests.{no-path, and-l, and-r, and-b, or-l, or-r, false-by}
 use Rattle.algebra.specs.Words.{those, every, padded}
-use Rattle.definitions.specs.Calls.{cleared, givenLine, Reply, reply, refusalOf, insertOf, deleteOf, rebuilt, placed, freed, allOnGrid, noLength, conflicting, freeSlots, roomFor, known}
+use Rattle.definitions.specs.Calls.{cleared, givenLine, Reply, reply, refusalOf, insertOf, deleteOf, rebuilt, placed, freed, allOnGrid, noLength, conflicting, conflictDetail, freeSlots, roomFor, known}
 use Rattle.definitions.specs.History.{Call, insert, delete, locate, show, replyTo, afterAll}
 use Rattle.definitions.specs.Shape.{within, Line, conflict, on, isEnd, parts, leftOf, rightOf}
 use Rattle.definitions.specs.Tables.{Tables, generation, x1, y1, x2, y2, isLive, slotsOf, liveSlots, lineAt, liveLines, liveSound, emptySound, slotSound, noneConflict, nodeTable, listingTable, lengthsFit, sound}
 use Rattle.definitions.specs.Tree.{leaf, listed, tree, nodesOf, listingsOf, Rule}
 use Rattle.meaning.specs.Fair.{Fair}
-use Rattle.meaning.specs.Crossing.{Proper}
+use Rattle.plane.specs.Crossing.{Proper}
 use Rattle.meaning.specs.Rules.{fewer, by-leaf}
 use Rattle.meaning.specs.Changes.{slots-freed, apart-freed, sub-freed, slots-placed}
 use Rattle.meaning.specs.Slots.{same-or-not, placed-slots, others-live, others-line, new-line, zero-at, none-live, no-lines}
@@ -86,7 +86,7 @@ module _ (rule : Rule) (fair : Fair rule) where
       (λ e1. branch O (not (sound rule t)) (λ e. kept Damaged (omega arith))
       (λ e2. branch O (not (allOnGrid g)) (λ e. kept OffGrid (omega arith))
       (λ e3. branch O (noLength g) (λ e. kept NoLength (omega arith))
-      (λ e4. by-first O (conflicting (t .lines) g) (λ s more e. kept (Conflict s) (omega arith))
+      (λ e4. by-first O (conflicting (t .lines) g) (λ s more e. kept (Conflict (conflictDetail (t .lines) s g)) (omega arith))
       (λ e5. by-first O (freeSlots (t .lines))
       (λ s more e6. branch O (not (roomFor rule t (placed (t .lines) s g))) (λ e. kept NoRoom (omega arith))
       (λ e7. took s more (record { fit = not-false _ e1; ok = not-false _ e2; grid = not-false _ e3; long = e4; clear = e5; slot = e6; room = not-false _ e7 })))

@@ -5,11 +5,11 @@ use Rattle.definitions.specs.declared.Given.{Given}
 use Rattle.algebra.specs.Lists.{in-upFrom, of-those}
 use Rattle.algebra.specs.Tests.{and-r, no-path}
 use Rattle.algebra.specs.Words.{upFrom}
-use Rattle.definitions.specs.Calls.{Reply, reply, refusalOf, insertOf, deleteOf, rebuilt, placed, freed, allOnGrid, noLength, conflicting, freeSlots, roomFor, known}
+use Rattle.definitions.specs.Calls.{Reply, reply, refusalOf, insertOf, deleteOf, rebuilt, placed, freed, allOnGrid, noLength, conflicting, conflictDetail, freeSlots, roomFor, known}
 use Rattle.definitions.specs.History.{Call, insert, delete, locate, show, replyTo, afterAll}
 use Rattle.definitions.specs.Tables.{Tables, generation, isLive, slotsOf, lengthsFit, sound}
 use Rattle.definitions.specs.Tree.{Rule}
-use Rattle.meaning.specs.Compare.{order}
+use Rattle.plane.specs.Compare.{order}
 use Rattle.meaning.specs.Slots.{same-or-not, in-slot, other-slot, lives-other as live-other, bare-dead as freed-dead}
 use Rattle.history.specs.Cascade.{branch, by-first}
 use Rattle.history.specs.Demand.{givenNow, givenBy, Distinct, Distinct.none, Distinct.one}
@@ -21,7 +21,7 @@ use Prim.Native.Nat.{ℕ, _+_, _*_, _/_, _%_, _≤_, _<_}
 use native.Mathlib.Omega.{arith}
 use lib.Dec.{ltb, eqb}
 use lib.ListN.{length}
-use borrow.Author.Tests.{ltb-true, eqb-true, not-false}
+use borrow.Author.Tests.{ltb-true, eqb-true, ne-eqb, not-false}
 
 -- what a free slot is
 pub record Free (lines : List ℕ) (s : ℕ) : Type 0 where
@@ -91,15 +91,7 @@ record Step (t : Tables) (r : Reply) (now : List ℕ) : Type 0 where
   single : (now ≡ []) ⊎ ((h : ℕ) × (now ≡ h ∷ []))
 
 no-gift : (g : Given) (r : Answer) → 0 < refusalOf r → givenNow (insert g) r ≡ []
-no-gift g (Done h) k = absurd (omega arith)
-no-gift g Lengths k = refl
-no-gift g Damaged k = refl
-no-gift g OffGrid k = refl
-no-gift g NoLength k = refl
-no-gift g (Conflict s) k = refl
-no-gift g NoSlot k = refl
-no-gift g NoRoom k = refl
-no-gift g UnknownHandle k = refl
+no-gift g r k = rw (ne-eqb (refusalOf r) 0 (λ e. omega (arith, k, e))) refl
 
 idle : (t : Tables) (a : Answer) (now : List ℕ) → now ≡ [] → Step t (reply a t) now
 idle t a now e =
@@ -133,7 +125,7 @@ module _ (rule : Rule) where
       (λ e. branch I (not (sound rule t)) (λ e. refused Damaged (omega arith))
       (λ e. branch I (not (allOnGrid g)) (λ e. refused OffGrid (omega arith))
       (λ e. branch I (noLength g) (λ e. refused NoLength (omega arith))
-      (λ e. by-first I (conflicting (t .lines) g) (λ s more e. refused (Conflict s) (omega arith))
+      (λ e. by-first I (conflicting (t .lines) g) (λ s more e. refused (Conflict (conflictDetail (t .lines) s g)) (omega arith))
       (λ e. by-first I (freeSlots (t .lines))
       (λ s more e. branch I (not (roomFor rule t (placed (t .lines) s g))) (λ f. refused NoRoom (omega arith)) (λ f. taken s more e))
       (λ e. refused NoSlot (omega arith)))))))

@@ -15,7 +15,7 @@ use Rattle.definitions.specs.Meaning.{Tabled, EmptySlot}
 use Rattle.definitions.specs.Tables.{Tables, entry, liveLines, nodeTable, listingTable, sound}
 use Rattle.definitions.specs.Tree.{Rule, Tree, tree, nodesOf, listingsOf}
 use Rattle.meaning.specs.Changes.{sub-freed}
-use Rattle.meaning.specs.Compare.{not-more}
+use Rattle.plane.specs.Compare.{not-more}
 use Rattle.meaning.specs.Fair.{Fair}
 use Rattle.meaning.specs.Plain.{locate-iff}
 use Rattle.meaning.specs.Rules.{fewer}

@@ -12,28 +12,31 @@ use Rattle.algebra.specs.Words.{those, every, padded, if_then_else_}
 use Rattle.definitions.specs.declared.Answer.{Answer}
 use Rattle.definitions.specs.declared.Answer.the-variants.{Done, Lengths, Damaged, OffGrid, NoLength, Conflict, NoSlot, NoRoom, UnknownHandle}
 use Rattle.definitions.specs.declared.Given.{Given}
+use Rattle.definitions.specs.declared.Kind.{Kind}
+use Rattle.definitions.specs.declared.Kind.the-variants.{Crossing, Touching, Overlap, Same}
 use Rattle.definitions.specs.declared.Point.{Point}
-use Rattle.definitions.specs.Shape.{Line, Block, wholeMap, gridPoint, meets, conflict}
+use Rattle.definitions.specs.Shape.{Line, Block, wholeMap, gridPoint, meets, conflict, kindOf}
 use Rattle.definitions.specs.Tree.{Rule, Tree, simple, baseRule, tree, listed, nodesOf, listingsOf}
 use Rattle.definitions.specs.Tables.{Tables, lengthsFit, generation, slotsOf, lineAt, liveSlots, liveLines, onGrid, slotSound, noneConflict, sound}
-use Rattle.definitions.specs.Calls.{numberOf, refusalOf, detailOf, cleared, startOf, insertOf, deleteOf, givenLine, known}
+use Rattle.definitions.specs.Calls.{numberOf, refusalOf, detailOf, kindNumber, cleared, startOf, insertOf, deleteOf, givenLine, known}
 use Rattle.definitions.specs.Lookup.{answerAt, answerTo, locateOf, showOf}
 use Rattle.definitions.specs.History.{Call, afterAll}
-use Rattle.definitions.specs.Meaning.{Spot, OnLine, InBlock, In, Meets, Conflicts, Criteria, IsTree, LeafAt, ListedFrom, Stored, Tabled, Live, SoundMap, AnswersTo}
+use Rattle.definitions.specs.Meaning.{Spot, OnLine, AtEnd, InBlock, In, Meets, Conflicts, OnlyShared, TwoShared, SameEnds, KindIs, Criteria, IsTree, LeafAt, ListedFrom, Stored, Tabled, Live, SoundMap, AnswersTo}
+use Rattle.plane.specs.Crossing.{Proper, conflict-iff}
+use Rattle.plane.specs.Kinds.{kind-iff, one-kind, conflict-kinds}
+use Rattle.plane.specs.Meeting.{meets-iff}
+use Rattle.plane.specs.Whole.{MeetsWhole, ConflictsWhole, nothing-lost}
 use Rattle.meaning.specs.Apart.{leaf-lists, leaves-exact}
-use Rattle.meaning.specs.Crossing.{Proper, conflict-iff}
 use Rattle.meaning.specs.Everywhere.{in-a-leaf}
 use Rattle.meaning.specs.Fair.{Fair, Sub}
 use Rattle.meaning.specs.Leaves.{LeafApart, share-a-leaf}
 use Rattle.meaning.specs.Locate.{looked, answerBy}
 use Rattle.meaning.specs.Means.{BySlot, simple-means, tree-is, tree-only}
-use Rattle.meaning.specs.Meeting.{meets-iff}
 use Rattle.meaning.specs.OneLeaf.{one-leaf}
 use Rattle.meaning.specs.Plain.{plain, plain-answers, locate-iff, locate-walk}
 use Rattle.meaning.specs.Rules.{base-fair, fewer}
 use Rattle.meaning.specs.SoundMeans.{sound-means}
 use Rattle.meaning.specs.Stored.{stored-lists, lists-stored, tabled-iff}
-use Rattle.meaning.specs.Whole.{MeetsWhole, ConflictsWhole, nothing-lost}
 use Rattle.history.specs.Demand.{Held, Distinct, givenBy, heard, Stands, liveHeld, SameLines, Alike}
 use Rattle.history.specs.Exact.{start-exact, insert-exact, delete-exact, locate-exact, show-exact, no-slot-16}
 use Rattle.history.specs.Grown.{grown, grown-sound, grown-held, grown-known}
@@ -49,8 +52,11 @@ number-done : (d : ℕ) → numberOf (Done d) ≡ d
 number-done d = omega arith
 
 number-refused : (numberOf Lengths ≡ 1 * 4294967296) × (numberOf Damaged ≡ 2 * 4294967296) × (numberOf OffGrid ≡ 3 * 4294967296) × (numberOf NoLength ≡ 4 * 4294967296)
-    × ((s : ℕ) → numberOf (Conflict s) ≡ 5 * 4294967296 + s) × (numberOf NoSlot ≡ 6 * 4294967296) × (numberOf NoRoom ≡ 7 * 4294967296) × (numberOf UnknownHandle ≡ 8 * 4294967296)
-number-refused = (refl, refl, refl, refl, λ s. refl, refl, refl, refl)
+    × ((d : ℕ) → numberOf (Conflict d) ≡ 5 * 4294967296 + d) × (numberOf NoSlot ≡ 6 * 4294967296) × (numberOf NoRoom ≡ 7 * 4294967296) × (numberOf UnknownHandle ≡ 8 * 4294967296)
+number-refused = (refl, refl, refl, refl, λ d. refl, refl, refl, refl)
+
+kinds-numbered : (kindNumber Crossing ≡ 1) × (kindNumber Touching ≡ 2) × (kindNumber Overlap ≡ 3) × (kindNumber Same ≡ 4)
+kinds-numbered = (refl, refl, refl, refl)
 
 number-whole : (a b : Answer) → detailOf a < 4294967296 → detailOf b < 4294967296 → numberOf a ≡ numberOf b → a ≡ b
 number-whole = number-tells
@@ -86,7 +92,8 @@ module _ (rule : Rule) (t : Tables) (g : Given) where
   insert-noLength : (insertOf rule t g .answer ≡ NoLength) ↔ EndsEqual g × None 3 insertTests
   insert-noLength = insert-exact rule t g .noLength
 
-  insert-conflict : (s : ℕ) → (insertOf rule t g .answer ≡ Conflict s) ↔ Lowest (InTheWay (t .lines) g) s × None 4 insertTests
+  insert-conflict : (d : ℕ) → (insertOf rule t g .answer ≡ Conflict d)
+      ↔ ((s : ℕ) × (k : Kind) × Lowest (InTheWay (t .lines) g) s × KindIs (lineAt (t .lines) s) (givenLine g) k × (d ≡ kindNumber k * 65536 + s)) × None 4 insertTests
   insert-conflict = insert-exact rule t g .conflict
 
   insert-noSlot : (insertOf rule t g .answer ≡ NoSlot) ↔ AllTaken (t .lines) × None 5 insertTests
@@ -199,6 +206,26 @@ nothing-is-lost = (nothing-lost .meeting, nothing-lost .crossing)
 
 lines-conflict : (l m : Line) → Proper l → Proper m → (conflict l m ≡ true) ↔ Conflicts l m
 lines-conflict = conflict-iff
+
+module _ (l m : Line) (pl : Proper l) (pm : Proper m) where
+  module _ (clash : conflict l m ≡ true) where
+    told-crossing : (kindOf l m ≡ Crossing) ↔ ((s : Spot) × OnlyShared s l m × ¬ AtEnd s l × ¬ AtEnd s m)
+    told-crossing = kind-iff l m pl pm clash Crossing
+
+    told-touching : (kindOf l m ≡ Touching) ↔ ((s : Spot) × OnlyShared s l m × ((AtEnd s l × ¬ AtEnd s m) ⊎ (¬ AtEnd s l × AtEnd s m)))
+    told-touching = kind-iff l m pl pm clash Touching
+
+    told-overlap : (kindOf l m ≡ Overlap) ↔ (TwoShared l m × ¬ SameEnds l m)
+    told-overlap = kind-iff l m pl pm clash Overlap
+
+    told-same : (kindOf l m ≡ Same) ↔ SameEnds l m
+    told-same = kind-iff l m pl pm clash Same
+
+  in-one-way : Conflicts l m ↔ ((k : Kind) × KindIs l m k)
+  in-one-way = conflict-kinds l m pl pm
+
+  and-no-other : (j k : Kind) → KindIs l m j → KindIs l m k → j ≡ k
+  and-no-other = one-kind l m
 
 block-simple : (lines : List Line) (k : Block) → BySlot lines → (simple lines k ≡ true) ↔ Criteria lines k
 block-simple = simple-means

@@ -7,14 +7,15 @@ use lib.ListN.{length, getD}
 use Rattle.definitions.specs.declared.Answer.{Answer}
 use Rattle.definitions.specs.declared.Answer.the-variants.{Done, Lengths, Damaged, OffGrid, NoLength, Conflict, NoSlot, NoRoom, UnknownHandle}
 use Rattle.definitions.specs.declared.Given.{Given}
+use Rattle.definitions.specs.declared.Kind.{Kind}
 use Rattle.definitions.specs.Shape.{Line, Block}
 use Rattle.definitions.specs.Tree.{Rule, tree, nodesOf, listingsOf}
 use Rattle.definitions.specs.Tables.{Tables, entry, live, generation, x1, y1, x2, y2, leftLabel, rightLabel, lineAt, liveLines}
-use Rattle.definitions.specs.Calls.{refusalOf, startOf, insertOf, deleteOf, givenLine, placed}
+use Rattle.definitions.specs.Calls.{refusalOf, kindNumber, startOf, insertOf, deleteOf, givenLine, placed}
 use Rattle.definitions.specs.Lookup.{Showing, locateOf, showOf}
 use Rattle.meaning.specs.Fair.{Fair}
 use Rattle.meaning.specs.Show.{ShowsLeaf}
-use Rattle.definitions.specs.Meaning.{Live, EmptySlot, Conflicts, Zeros, Tabled, SoundMap, AnswersTo}
+use Rattle.definitions.specs.Meaning.{Live, EmptySlot, Conflicts, KindIs, Zeros, Tabled, SoundMap, AnswersTo}
 
 -- none of the first n tests applies
 abbrev pub None : ℕ → List (Type 0) → Type 0
@@ -160,12 +161,16 @@ module _ (rule : Rule) (t : Tables) (g : Given) where
   abbrev pub Handle : ℕ → Type 0
   Handle h = (s : ℕ) × Lowest (Vacant (t .lines)) s × (h ≡ s * 65536 + (generation (t .lines) s + 1))
 
+  -- kind × 65,536 + slot: the lowest slot in the way, and how its line conflicts with the given one
+  abbrev pub Named : ℕ → Type 0
+  Named d = (s : ℕ) × (k : Kind) × Lowest (InTheWay (t .lines) g) s × KindIs (lineAt (t .lines) s) (givenLine g) k × (d ≡ kindNumber k * 65536 + s)
+
   pub record InsertExact : Type 0 where
     pub lengths : (inserted ≡ Lengths) ↔ WrongLengths t
     pub damaged : (inserted ≡ Damaged) ↔ Unsound rule t × None 1 insertTests
     pub offGrid : (inserted ≡ OffGrid) ↔ AboveGrid g × None 2 insertTests
     pub noLength : (inserted ≡ NoLength) ↔ EndsEqual g × None 3 insertTests
-    pub conflict : (s : ℕ) → (inserted ≡ Conflict s) ↔ Lowest (InTheWay (t .lines) g) s × None 4 insertTests
+    pub conflict : (d : ℕ) → (inserted ≡ Conflict d) ↔ Named d × None 4 insertTests
     pub noSlot : (inserted ≡ NoSlot) ↔ AllTaken (t .lines) × None 5 insertTests
     pub noRoom : (inserted ≡ NoRoom) ↔ TooLarge rule t g × None 6 insertTests
     pub done : (h : ℕ) → (inserted ≡ Done h) ↔ Handle h × None 7 insertTests

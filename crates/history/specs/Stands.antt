@@ -1,6 +1,5 @@
 -- The live lines are exactly those inserted and not since deleted.
 use Rattle.definitions.specs.declared.Answer.{Answer}
-use Rattle.definitions.specs.declared.Answer.the-variants.{Done, Lengths, Damaged, OffGrid, NoLength, Conflict, NoSlot, NoRoom, UnknownHandle}
 use Rattle.definitions.specs.declared.Given.{Given}
 use Rattle.algebra.specs.Lists.{in-those, of-those}
 use Rattle.algebra.specs.Words.{those, if_then_else_}
@@ -18,17 +17,6 @@ use Prim.Native.Nat.{ℕ}
 use native.Mathlib.Omega.{arith}
 use lib.Dec.{eqb}
 use borrow.Author.Tests.{eqb-true, eq-eqb, eqb-false, ne-eqb, not-true}
-
-done-is : (r : Answer) → refusalOf r ≡ 0 → r ≡ Done (detailOf r)
-done-is (Done d) e = refl
-done-is Lengths e = absurd (omega arith)
-done-is Damaged e = absurd (omega arith)
-done-is OffGrid e = absurd (omega arith)
-done-is NoLength e = absurd (omega arith)
-done-is (Conflict s) e = absurd (omega arith)
-done-is NoSlot e = absurd (omega arith)
-done-is NoRoom e = absurd (omega arith)
-done-is UnknownHandle e = absurd (omega arith)
 
 not-both : (g : Given) (h : ℕ) → insert g ≡ delete h → ⊥
 not-both g h e = let z : _≡_ {A = ℕ} 0 1 = cc in omega arith
@@ -51,9 +39,6 @@ same-given g k e = cc
 same-handle : (g k : ℕ) → delete g ≡ delete k → g ≡ k
 same-handle g k e = cc
 
-same-done : (r : Answer) (h : ℕ) → r ≡ Done h → (refusalOf r ≡ 0) × (detailOf r ≡ h)
-same-done r h e = (ap refusalOf e, ap detailOf e)
-
 -- one call
 one→ : (held : List Held) (c : Call) (r : Answer) (i : Held) → List·Memᴰ i (heldAfter held c r)
     → (List·Memᴰ i held × (Took (record { call = c; answer = r }) (i .handle) → ⊥)) ⊎ Gave (record { call = c; answer = r }) i
@@ -66,7 +51,7 @@ one→ held (insert g) r i m = go (eqb (refusalOf r) 0) refl m
       where
         first : (i ≡ record { handle = detailOf r; line = g }) ⊎ List·Memᴰ i held
             → (List·Memᴰ i held × (Took (record { call = insert g; answer = r }) (i .handle) → ⊥)) ⊎ Gave (record { call = insert g; answer = r }) i
-        first (inl q) = inr (ap (λ (j : Held). insert (j .line)) (sym q), done-is r (eqb-true _ _ e) ∙ ap (λ (j : Held). Done (j .handle)) (sym q))
+        first (inl q) = inr (ap (λ (j : Held). insert (j .line)) (sym q), eqb-true _ _ e, ap (λ (j : Held). j .handle) (sym q))
         first (inr n) = inl (n, λ t. not-both g (i .handle) (t .0))
     go false e m = inl (m, λ t. not-both g (i .handle) (t .0))
 one→ held (delete h) r i m = go (eqb (refusalOf r) 0) refl m
@@ -89,19 +74,18 @@ one← held (insert g) r i (inl (m, f)) = go (eqb (refusalOf r) 0)
     go : (b : Bool) → List·Memᴰ i (if b then (record { handle = detailOf r; line = g } ∷ held) else held)
     go true = List·Memᴰ·tail m
     go false = m
-one← held (insert g) r i (inr (e, f)) =
-    let q = same-done r (i .handle) f in
-    rw (eq-eqb (refusalOf r) 0 (q .0)) (List·Memᴰ·head (λ k. record { handle = sym (q .1) k; line = sym (same-given g (i .line) e) k }))
+one← held (insert g) r i (inr (e, f, d)) =
+    rw (eq-eqb (refusalOf r) 0 f) (List·Memᴰ·head (λ k. record { handle = sym d k; line = sym (same-given g (i .line) e) k }))
 one← held (delete h) r i (inl (m, f)) = go (eqb (refusalOf r) 0) refl
   where
     go : (b : Bool) → eqb (refusalOf r) 0 ≡ b → List·Memᴰ i (if b then those (λ i. not (eqb (i .handle) h)) held else held)
     go true e = in-those (λ i. not (eqb (i .handle) h)) held m (ap not (ne-eqb (i .handle) h (λ q. f (ap delete (sym q), omega (arith, eqb-true (refusalOf r) 0 e)))))
     go false e = m
-one← held (delete h) r i (inr (e, f)) = absurd (not-both (i .line) h (sym e))
+one← held (delete h) r i (inr (e, f, d)) = absurd (not-both (i .line) h (sym e))
 one← held (locate ps as′) r i (inl (m, f)) = m
-one← held (locate ps as′) r i (inr (e, f)) = absurd (looked-in ps as′ (i .line) e)
+one← held (locate ps as′) r i (inr (e, f, d)) = absurd (looked-in ps as′ (i .line) e)
 one← held (show x y) r i (inl (m, f)) = m
-one← held (show x y) r i (inr (e, f)) = absurd (showed-in x y (i .line) e)
+one← held (show x y) r i (inr (e, f, d)) = absurd (showed-in x y (i .line) e)
 
 held→ : (log : List Heard) (held : List Held) (i : Held) → List·Memᴰ i (heldBy held log) → (List·Memᴰ i held × NeverTook log (i .handle)) ⊎ Stands i log
 unfolding heldBy

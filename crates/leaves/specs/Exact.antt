@@ -16,7 +16,7 @@ use Rattle.definitions.specs.Shape.{Line, Block, wholeMap, conflict}
 use Rattle.definitions.specs.Tables.{isLive, lineAt, liveSlots, liveLines, slotSound, slotsOf, noneConflict, nodeTable, listingTable}
 use Rattle.definitions.specs.Tree.{Rule, Tree, tree, treeBy, nodesOf, listingsOf}
 use Rattle.meaning.specs.Apart.{leaf-lists, leaves-exact}
-use Rattle.meaning.specs.Crossing.{Proper}
+use Rattle.plane.specs.Crossing.{Proper}
 use Rattle.meaning.specs.Leaves.{listed-iff}
 use Rattle.meaning.specs.Means.{is-tree, live-by-slot}
 use Rattle.meaning.specs.Sound.{conflict-back}

@@ -12,9 +12,9 @@ use Rattle.algebra.specs.Tests.{both→, both-ways, false-by, no-path}
 use Rattle.algebra.specs.Words.{isPositive, isZero}
 use Rattle.definitions.specs.declared.Point.{Point}
 use Rattle.definitions.specs.Shape.{Line, turn, between, samePoint, isEnd, conflict}
-use Rattle.meaning.specs.Compare.{order, _·_}
-use Rattle.meaning.specs.Ends.{same-refl, end-cases}
-use Rattle.meaning.specs.Turns.{lefts, rights, turn-is}
+use Rattle.plane.specs.Compare.{order, _·_}
+use Rattle.plane.specs.Ends.{same-refl, end-cases}
+use Rattle.plane.specs.Turns.{lefts, rights, turn-is}
 use Rattle.geometry.specs.Join.{zero→, left→, boxed←, fork-ac, fork-ad, fork-bc, fork-bd}
 use Rattle.geometry.specs.Means.{boxedOf, lineFrom, forkOf}
 use Rattle.geometry.specs.Slots.{conflict-slot}

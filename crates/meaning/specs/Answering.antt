@@ -17,10 +17,10 @@ use Rattle.definitions.specs.Lookup.{below, run, higher, highest, upperLabel, a
 use Rattle.definitions.specs.Meaning.{spotOf, CountsBelow, NoneHigher, Live, Through, UpperLabel, Answers, upon, under, outside, AnswersTo, offGrid, within}
 use Rattle.definitions.specs.Shape.{Line, gridPoint, conflict, on}
 use Rattle.definitions.specs.Tables.{x1, x2, isLive, slotsOf, lineAt, liveSlots, liveLines, onGrid, noneConflict}
-use Rattle.meaning.specs.Compare.{order}
-use Rattle.meaning.specs.Crossing.{spot-on, on→, on←}
+use Rattle.plane.specs.Compare.{order}
+use Rattle.plane.specs.Crossing.{spot-on, on→, on←}
 use Rattle.meaning.specs.Height.{counts-below, over-is, below→, none-higher→, none-higher←}
-use Rattle.meaning.specs.Meeting.{turnAt-is}
+use Rattle.plane.specs.Meeting.{turnAt-is}
 use Rattle.meaning.specs.Rank.{Over, clear-of, Higher, higher→, higher←, asym, higher-trans, higher-total, run-some}
 
 -- live slots

@@ -13,7 +13,7 @@ use Rattle.definitions.specs.Meaning.{LeafAt, here, inNW, inNE, inSW, inSE}
 use Rattle.definitions.specs.Shape.{Line, Block, conflict}
 use Rattle.definitions.specs.Tables.{slotsOf, liveSlots, lineAt, liveLines, slotSound, noneConflict}
 use Rattle.definitions.specs.Tree.{leaf, listed, block, tree, Rule, treeBy}
-use Rattle.meaning.specs.Blocks.{nw-is, ne-is, sw-is, se-is}
+use Rattle.plane.specs.Blocks.{nw-is, ne-is, sw-is, se-is}
 use Rattle.meaning.specs.Leaves.{listed-iff, LeafApart, leaves-suffice}
 use Rattle.meaning.specs.Rules.{by-leaf, by-divided, sonsBy}
 use mathlib.Core.Path.{_≡_, refl, sym, _∙_, ap, subst}

@@ -19,7 +19,7 @@ use Rattle.definitions.specs.Shape.{Line, turn}
 use Rattle.definitions.specs.Tables.{lineAt, noneConflict}
 use Rattle.meaning.specs.Answering.{none-conflicts}
 use Rattle.meaning.specs.Rank.{Over, Higher, higher→, higher←, higher-not, asym, higher-trans, by-turns, run-some}
-use Rattle.meaning.specs.Turns.{turn-is, higherByTurns}
+use Rattle.plane.specs.Turns.{turn-is, higherByTurns}
 
 -- true: the higher line goes first, as below a point; false: the lower, as above it
 unfoldable pub Ahead : Bool → ℕ → Line → Line → Type 0

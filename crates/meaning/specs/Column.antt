@@ -21,13 +21,13 @@ use Rattle.definitions.specs.Shape.{Line, halfPoint, Block, nwOf, neOf, swOf, s
 use Rattle.definitions.specs.Tables.{lineAt, liveLines, noneConflict}
 use Rattle.definitions.specs.Tree.{Rule, Tree, leaf, divided, listed, treeBy, block}
 use Rattle.meaning.specs.Answering.{through-is, live-mem, mem-live, best-answers, answer-iff, none-through}
-use Rattle.meaning.specs.Blocks.{double, half-power}
+use Rattle.plane.specs.Blocks.{double, half-power}
 use Rattle.meaning.specs.Best.{Ahead, ahead, scan, CountsAt, Tops, noTop, top, tops-less, tops-scan, Best}
-use Rattle.meaning.specs.Compare.{order}
+use Rattle.plane.specs.Compare.{order}
 use Rattle.meaning.specs.Height.{pointOver, pointOver-is, counts-below, below→}
-use Rattle.meaning.specs.Meeting.{meets-iff}
+use Rattle.plane.specs.Meeting.{meets-iff}
 use Rattle.meaning.specs.Rank.{Over, Higher, run-some, turn-height, taller, Taller, asym}
-use Rattle.meaning.specs.Turns.{lefts, rights, turn-is}
+use Rattle.plane.specs.Turns.{lefts, rights, turn-is}
 
 -- over x the line's height is from S to T
 pub record Between (x S T : ℕ) (l : Line) : Type 0 where

@@ -14,10 +14,10 @@ use Rattle.definitions.specs.Meaning.{Meets}
 use Rattle.definitions.specs.Shape.{Line, Block, meets, inside, samePoint, isEnd}
 use Rattle.definitions.specs.Tree.{endsOf, simpleWith, simple, Tree, leaf, divided, listed, block, nodesOf, listingsOf}
 use Rattle.meaning.specs.Fair.{Sub, none, keep, skip}
-use Rattle.meaning.specs.Blocks.{double}
-use Rattle.meaning.specs.Compare.{order}
-use Rattle.meaning.specs.Ends.{same-refl, same-path, end-cases}
-use Rattle.meaning.specs.Meeting.{meets-iff}
+use Rattle.plane.specs.Blocks.{double}
+use Rattle.plane.specs.Compare.{order}
+use Rattle.plane.specs.Ends.{same-refl, same-path, end-cases}
+use Rattle.plane.specs.Meeting.{meets-iff}
 use borrow.Author.Tests.{leb-true, le-leb}
 
 pub sub-mem : {x : Line} {ls ms : List Line} → Sub ls ms → List·Memᴰ x ls → List·Memᴰ x ms

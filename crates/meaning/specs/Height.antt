@@ -14,11 +14,11 @@ use Rattle.algebra.specs.Words.{if_then_else_, isPositive}
 use Rattle.definitions.specs.Lookup.{westEnd, eastEnd, below, run, heightOver}
 use Rattle.definitions.specs.Meaning.{Spot, OnLine, Steeper, PointOver, CountsBelow, NoneHigher}
 use Rattle.definitions.specs.Shape.{Line, minX, maxX, turn}
-use Rattle.meaning.specs.Compare.{order}
-use Rattle.meaning.specs.Crossing.{back, mix-line}
-use Rattle.meaning.specs.Meeting.{turnAt-is}
+use Rattle.plane.specs.Compare.{order}
+use Rattle.plane.specs.Crossing.{back, mix-line}
+use Rattle.plane.specs.Meeting.{turnAt-is}
 use Rattle.meaning.specs.Rank.{eastward, eastward-is, Over, Taller, Level, Higher, taller, steeper, asym, turn-height, run-some}
-use Rattle.meaning.specs.Turns.{turn-is}
+use Rattle.plane.specs.Turns.{turn-is}
 
 -- a point of the line taken west to east is a point of the line
 online-back : (s : Spot) (l : Line) → OnLine s (back l) → OnLine s l

@@ -16,11 +16,11 @@ use Rattle.definitions.specs.Meaning.{Spot, OnLine, InBlock, LeafAt, here, inNW
 use Rattle.definitions.specs.Shape.{Line, Block, meets, inside, conflict, wholeMap}
 use Rattle.definitions.specs.Tables.{live, generation, x1, y1, x2, y2, isLive, slotsOf, liveSlots, lineAt, liveLines, onGrid, liveSound, emptySound, slotSound, noneConflict}
 use Rattle.definitions.specs.Tree.{endsOf, simpleWith, simple, Tree, leaf, divided, listed, block, tree, Rule, treeBy, baseRule}
-use Rattle.meaning.specs.Blocks.{double, nw-is, ne-is, sw-is, se-is}
-use Rattle.meaning.specs.Compare.{order}
-use Rattle.meaning.specs.Crossing.{Proper, conflict-iff}
+use Rattle.plane.specs.Blocks.{double, nw-is, ne-is, sw-is, se-is}
+use Rattle.plane.specs.Compare.{order}
+use Rattle.plane.specs.Crossing.{Proper, conflict-iff}
 use Rattle.meaning.specs.Means.{inside→}
-use Rattle.meaning.specs.Meeting.{meets-iff, turnAt-is}
+use Rattle.plane.specs.Meeting.{meets-iff, turnAt-is}
 use Rattle.meaning.specs.Rules.{by-leaf, by-divided}
 use Rattle.meaning.specs.Slots.{same-or-not}
 use Rattle.meaning.specs.Sound.{live-proper}

@@ -1,14 +1,4 @@
 pub mod Fair
-pub mod Blocks
-pub mod Turns
-pub mod Compare
-pub mod Says
-pub mod Segments
-pub mod Ends
-pub mod Meeting
-pub mod Overlap
-pub mod Crossing
-pub mod Whole
 pub mod Fewer
 pub mod Rules
 pub mod Means

@@ -19,7 +19,7 @@ use Rattle.definitions.specs.Tables.{lineAt, liveLines, noneConflict}
 use Rattle.definitions.specs.Tree.{Rule, listed, block, tree, treeBy}
 use Rattle.meaning.specs.Answering.{live-mem}
 use Rattle.meaning.specs.Column.{BestBelow, SeenBelow, own-leaf, labelOf, answer-found, all-below, start-below, column, column-keeps}
-use Rattle.meaning.specs.Compare.{order}
+use Rattle.plane.specs.Compare.{order}
 use Rattle.meaning.specs.Walk.{step, Walked, step-walked}
 
 -- the first slot of the list whose line goes through p

@@ -16,10 +16,10 @@ use Rattle.definitions.specs.Meaning.{Meets, EndOf, AnEnd, In, Criteria, Lists,
 use Rattle.definitions.specs.Shape.{Line, Block, east, north, meets, inside, samePoint, isEnd, wholeMap, nwOf, neOf, swOf, seOf}
 use Rattle.definitions.specs.Tables.{liveSlots, lineAt, liveLines, slotsOf, isLive}
 use Rattle.definitions.specs.Tree.{endsOf, simple, Tree, leaf, divided, listed, block, tree, Rule, treeBy, baseRule}
-use Rattle.meaning.specs.Blocks.{double, half-power, some-power}
-use Rattle.meaning.specs.Ends.{same-refl, same-path, end-cases}
+use Rattle.plane.specs.Blocks.{double, half-power, some-power}
+use Rattle.plane.specs.Ends.{same-refl, same-path, end-cases}
 use Rattle.meaning.specs.Fewer.{Simple, simple→, simple←}
-use Rattle.meaning.specs.Meeting.{meets-iff}
+use Rattle.plane.specs.Meeting.{meets-iff}
 use Rattle.meaning.specs.Rules.{of-ends, in-ends, at-most-one, by-leaf, by-divided}
 
 pub inside→ : (k : Block) (p : Point) → inside k p ≡ true → In k p

@@ -15,9 +15,9 @@ use Rattle.algebra.specs.Words.{if_then_else_, isPositive, isNegative, isZero}
 use Rattle.definitions.specs.Lookup.{westEnd, eastEnd, run, heightOver, rise, higher}
 use Rattle.definitions.specs.Meaning.{Conflicts, Steeper}
 use Rattle.definitions.specs.Shape.{Line, turn, samePoint, conflict}
-use Rattle.meaning.specs.Compare.{order}
-use Rattle.meaning.specs.Crossing.{Proper, back, unback, turned, conflict-iff}
-use Rattle.meaning.specs.Turns.{lefts, rights, turn-is, higherByTurns}
+use Rattle.plane.specs.Compare.{order}
+use Rattle.plane.specs.Crossing.{Proper, back, unback, turned, conflict-iff}
+use Rattle.plane.specs.Turns.{lefts, rights, turn-is, higherByTurns}
 use Rattle.meaning.specs.Weigh.{touch, overlaid, cross}
 
 -- the line, taken west to east

@@ -17,7 +17,7 @@ use Rattle.definitions.specs.Meaning.{In, LeafAt, here, inNW, inNE, inSW, inSE,
 use Rattle.definitions.specs.Shape.{Line, Block, gridPoint, wholeMap, nwOf, neOf, swOf, seOf}
 use Rattle.definitions.specs.Tables.{Tables, lengthsFit, liveLines, onGrid, listingTable}
 use Rattle.definitions.specs.Tree.{Rule, Tree, leaf, divided, listed, block, treeBy, tree, listingsOf}
-use Rattle.meaning.specs.Blocks.{double, half-power, nw-is, ne-is, sw-is, se-is}
+use Rattle.plane.specs.Blocks.{double, half-power, nw-is, ne-is, sw-is, se-is}
 use Rattle.meaning.specs.Rules.{by-leaf, by-divided}
 use Rattle.meaning.specs.Sound.{Sound, sound←}
 

@@ -4,7 +4,7 @@ use Rattle.algebra.specs.Lists.{those-no}
 use Rattle.algebra.specs.Words.{those, upFrom}
 use Rattle.definitions.specs.Calls.{placed, freed, withSlot, givenLine}
 use Rattle.definitions.specs.Tables.{entry, generation, isLive, slotsOf, x1, y1, x2, y2, liveSlots, lineAt, liveLines, liveSound, emptySound, slotSound}
-use Rattle.meaning.specs.Compare.{order}
+use Rattle.plane.specs.Compare.{order}
 use mathlib.Core.Path.{_≡_, refl, _∙_, ap, subst}
 use mathlib.Core.Logic.{_⊎_, inl, inr}
 use mathlib.Core.Bool.{true, false}

@@ -5,7 +5,7 @@ use Rattle.algebra.specs.Words.{every, sameList}
 use Rattle.definitions.specs.Shape.{Line, gridPoint, samePoint, conflict}
 use Rattle.definitions.specs.Tables.{Tables, live, generation, x1, y1, x2, y2, leftLabel, rightLabel, isLive, slotsOf, lineAt, liveLines, onGrid, liveSound, emptySound, slotSound, noneConflict, nodeTable, listingTable, sound}
 use Rattle.definitions.specs.Tree.{tree, nodesOf, listingsOf, Rule}
-use Rattle.meaning.specs.Crossing.{Proper, conflict-iff}
+use Rattle.plane.specs.Crossing.{Proper, conflict-iff}
 use mathlib.Core.Path.{_≡_, refl, sym, _∙_, ap, subst}
 use mathlib.Core.Bool.{Bool, true, false, not, _&&_, _||_}
 use mathlib.Core.List.{List}

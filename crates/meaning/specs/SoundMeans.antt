@@ -17,7 +17,7 @@ use Rattle.definitions.specs.Tables.{Tables, entry, live, generation, x1, y1, x
 use Rattle.definitions.specs.Tree.{Rule, tree}
 use Rattle.meaning.specs.Answering.{live→, live←}
 use Rattle.meaning.specs.Chain.{Each, chain→, chain←, eqb-means, both-means, not-means}
-use Rattle.meaning.specs.Crossing.{Proper, conflict-iff}
+use Rattle.plane.specs.Crossing.{Proper, conflict-iff}
 use Rattle.meaning.specs.Slots.{same-or-not}
 use Rattle.meaning.specs.Sound.{Sound, sound→, sound←, live-proper}
 use Rattle.meaning.specs.Stored.{tabled-iff}

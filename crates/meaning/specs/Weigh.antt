@@ -5,7 +5,7 @@ use native.Mathlib.Omega.{arith}
 use native.Mathlib.Nat.{mul-pos}
 use Rattle.definitions.specs.Meaning.{Spot, Conflicts}
 use Rattle.definitions.specs.Shape.{Line}
-use Rattle.meaning.specs.Crossing.{Proper, Mix, mix-line, mix-inner}
+use Rattle.plane.specs.Crossing.{Proper, Mix, mix-line, mix-inner}
 
 -- the weights v, u of a line's ends over x
 pub flat : (ax bx x u v : ℕ) → ax + u ≡ x → x + v ≡ bx → ax * v + bx * u ≡ x * (v + u)

@@ -16,7 +16,7 @@ use Rattle.definitions.specs.declared.Point.{Point}
 use Rattle.definitions.specs.Shape.{Line, Block, meets, inside, samePoint, isEnd}
 use Rattle.definitions.specs.Tables.{lineAt}
 use Rattle.definitions.specs.Tree.{endsOf, simple, simpleWith}
-use Rattle.meaning.specs.Ends.{same-refl, same-path, end-cases}
+use Rattle.plane.specs.Ends.{same-refl, same-path, end-cases}
 use Rattle.meaning.specs.Fewer.{in-ends-a, in-ends-b, Simple, simple→, simple←}
 use Rattle.meaning.specs.Rules.{of-ends, in-ends}
 use Rattle.geometry.specs.declared.Line as code

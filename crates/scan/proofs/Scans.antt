@@ -20,7 +20,7 @@ use Rattle.geometry.specs.Look.{higher-ends}
 use Rattle.geometry.specs.Slots.{on-slot, below-slot}
 use Rattle.meaning.specs.declared.Found.{Found}
 use Rattle.meaning.specs.declared.Found.the-variants.{Nothing, At}
-use Rattle.meaning.specs.Turns.{higherByTurns}
+use Rattle.plane.specs.Turns.{higherByTurns}
 use Rattle.meaning.specs.Best.{better, aheadByTurns, scan}
 use Rattle.meaning.specs.Column.{labelOf}
 use Rattle.meaning.specs.Height.{below→}

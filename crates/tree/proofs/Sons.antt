@@ -14,7 +14,7 @@ use Rattle.algebra.specs.Words.{those, over}
 use Rattle.definitions.specs.Shape.{Line, Block, nwOf, neOf, swOf, seOf, meets}
 use Rattle.definitions.specs.Tables.{lineAt}
 use Rattle.definitions.specs.Tree.{Tree, leaf, divided, block, listed, simple, baseRule, treeBy, nodesOf, listingsOf}
-use Rattle.meaning.specs.Blocks.{double}
+use Rattle.plane.specs.Blocks.{double}
 use Rattle.meaning.specs.Fewer.{some-node}
 use Rattle.meaning.specs.Leaves.{base-local, candidates}
 use Rattle.meaning.specs.Rules.{by-leaf, by-divided}

@@ -11,7 +11,7 @@ use Rattle.definitions.specs.Meaning.{Spot, OnLine}
 use Rattle.definitions.specs.Shape.{Line, Block, wholeMap, meets}
 use Rattle.definitions.specs.Tables.{lineAt, liveLines}
 use Rattle.definitions.specs.Tree.{Tree, treeBy, tree, baseRule, nodesOf, listingsOf}
-use Rattle.meaning.specs.Meeting.{meets-iff, turnAt-is}
+use Rattle.plane.specs.Meeting.{meets-iff, turnAt-is}
 use Rattle.tables.specs.Rows.{OnMap}
 use Rattle.tables.specs.Slots.{LiveFront, live-few}
 use Rattle.tree.specs.declared.Built.{Built}

@@ -13,9 +13,9 @@ use Rattle.algebra.specs.Tests.{no-path, false-by}
 use Rattle.definitions.specs.declared.Point.{Point}
 use Rattle.definitions.specs.Shape.{Line, samePoint}
 use Rattle.definitions.specs.Meaning.{Spot, turnAt, OnLine, AtPoint, AtEnd}
-use Rattle.meaning.specs.Compare.{order, cancel, _·_, _⊞_, follows, rest, gap}
-use Rattle.meaning.specs.Turns.{lefts, rights}
-use Rattle.meaning.specs.Says.{both, eq-says}
+use Rattle.plane.specs.Compare.{order, cancel, _·_, _⊞_, follows, rest, gap}
+use Rattle.plane.specs.Turns.{lefts, rights}
+use Rattle.plane.specs.Says.{both, eq-says}
 
 -- the two sums whose difference is the turn at a spot
 pub turnAt-is : (a b : Point) (s : Spot)

@@ -7,10 +7,10 @@ use native.Mathlib.Nat.{mul-le-mul-left, mul-lt-mul-of-pos-left, lt-of-mul-lt-mu
 use Rattle.definitions.specs.declared.Point.{Point}
 use Rattle.definitions.specs.Shape.{Line}
 use Rattle.definitions.specs.Meaning.{spotOf, Spot, AtPoint, AtEnd}
-use Rattle.meaning.specs.Compare.{order, cancel, _·_, gap}
-use Rattle.meaning.specs.Turns.{lefts, rights}
-use Rattle.meaning.specs.Segments.{back, online-back, Weighed, flip, dot, dotAt, weigh, Proper, proper-back}
-use Rattle.meaning.specs.Ends.{Within, within-by}
+use Rattle.plane.specs.Compare.{order, cancel, _·_, gap}
+use Rattle.plane.specs.Turns.{lefts, rights}
+use Rattle.plane.specs.Segments.{back, online-back, Weighed, flip, dot, dotAt, weigh, Proper, proper-back}
+use Rattle.plane.specs.Ends.{Within, within-by}
 
 -- p lies in the straight line of l
 abbrev pub Even : Line → Point → Type 0

@@ -6,13 +6,14 @@ use Prim.Native.Nat.{_≤_, _<_}
 use native.Mathlib.Omega.{arith}
 use borrow.Author.Tests.{eqb-true, eq-eqb}
 use Rattle.algebra.specs.Tests.{or-cases}
+use Rattle.algebra.specs.Words.{isZero}
 use Rattle.algebra.specs.Signs.{zero-is, zero-of-equal}
 use Rattle.definitions.specs.declared.Point.{Point}
-use Rattle.definitions.specs.Shape.{Line, minX, maxX, minY, maxY, samePoint, isEnd, on, within}
+use Rattle.definitions.specs.Shape.{Line, turn, minX, maxX, minY, maxY, samePoint, isEnd, on, within}
 use Rattle.definitions.specs.Meaning.{spotOf, OnLine, AtPoint, AtEnd}
-use Rattle.meaning.specs.Turns.{lefts, rights, turn-is}
-use Rattle.meaning.specs.Says.{both, either, unless, le-says, eq-says}
-use Rattle.meaning.specs.Segments.{turnAt-is, straight-of, Proper, Weighed, weighed-line, no-end}
+use Rattle.plane.specs.Turns.{lefts, rights, turn-is}
+use Rattle.plane.specs.Says.{both, either, unless, le-says, eq-says}
+use Rattle.plane.specs.Segments.{turnAt-is, straight-of, Proper, Weighed, weighed-line, no-end}
 
 -- a point of the line, as numbers
 pub record OnAt (p : Point) (l : Line) : Type 0 where
@@ -22,12 +23,14 @@ pub record OnAt (p : Point) (l : Line) : Type 0 where
   pub s : minY l ≤ p .y .0
   pub n : p .y .0 ≤ maxY l
 
+pub straight-says : (l : Line) (p : Point) → (isZero (turn (l .a) (l .b) p) ≡ true) ↔ (lefts (l .a) (l .b) p ≡ rights (l .a) (l .b) p)
+straight-says l p = let z = zero-is (turn-is (l .a) (l .b) p) in (λ e. eqb-true _ _ (sym z ∙ e), λ h. z ∙ eq-eqb _ _ h)
+
 on-at : (p : Point) (l : Line) → (on p l ≡ true) ↔ OnAt p l
 unfolding on
 on-at p l =
-    let z = zero-is (turn-is (l .a) (l .b) p) in
     Iff·trans
-    (both (both (λ e. eqb-true _ _ (sym z ∙ e), λ h. z ∙ eq-eqb _ _ h) (both (le-says _ _) (le-says _ _))) (both (le-says _ _) (le-says _ _)))
+    (both (both (straight-says l p) (both (le-says _ _) (le-says _ _))) (both (le-says _ _) (le-says _ _)))
     (λ f. record { even = f .0 .0; w = f .0 .1 .0; e = f .0 .1 .1; s = f .1 .0; n = f .1 .1 }, λ o. ((o .even, (o .w, o .e)), (o .s, o .n)))
 
 pub on→ : (p : Point) (l : Line) → on p l ≡ true → OnAt p l

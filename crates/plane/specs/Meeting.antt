@@ -9,10 +9,10 @@ use Rattle.algebra.specs.Order.{mul-le}
 use Rattle.definitions.specs.declared.Point.{Point}
 use Rattle.definitions.specs.Shape.{Line, Block, halfPoint, east, north, minX, maxX, minY, maxY, corners, meets}
 use Rattle.definitions.specs.Meaning.{Spot, Meets}
-use Rattle.meaning.specs.Compare.{order, not-more, cancelled, _·_}
-use Rattle.meaning.specs.Says.{both, unless, le-says, Left, Right, NotLeft, NotRight, left?, right?, left-says, right-says}
-use Rattle.meaning.specs.Segments.{straight-of, back, online-back, mix-line}
-pub use Rattle.meaning.specs.Segments.{turnAt-is}
+use Rattle.plane.specs.Compare.{order, not-more, cancelled, _·_}
+use Rattle.plane.specs.Says.{both, unless, le-says, Left, Right, NotLeft, NotRight, left?, right?, left-says, right-says}
+use Rattle.plane.specs.Segments.{straight-of, back, online-back, mix-line}
+pub use Rattle.plane.specs.Segments.{turnAt-is}
 
 module _ (k : Block) where
   -- the four corners

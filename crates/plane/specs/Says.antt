@@ -9,8 +9,8 @@ use Rattle.algebra.specs.Tests.{no-path, and-l, and-r, and-b, or-l, or-r, or-ca
 use Rattle.algebra.specs.Signs.{positive-is, negative-is}
 use Rattle.definitions.specs.declared.Point.{Point}
 use Rattle.definitions.specs.Shape.{Line, leftOf, rightOf}
-use Rattle.meaning.specs.Compare.{order}
-use Rattle.meaning.specs.Turns.{lefts, rights, turn-is}
+use Rattle.plane.specs.Compare.{order}
+use Rattle.plane.specs.Turns.{lefts, rights, turn-is}
 
 module _ {a b : Bool} {A B : Type 0} where
   pub both : (a ≡ true) ↔ A → (b ≡ true) ↔ B → (a && b ≡ true) ↔ (A × B)

@@ -11,7 +11,7 @@ use Rattle.algebra.specs.Signs.{Is, pos-is, sub-is, add-is, neg-is, mul-is, shi
 use Rattle.definitions.specs.declared.Point.{Point}
 use Rattle.definitions.specs.Shape.{Line, Block, east, north, minX, maxX, minY, maxY}
 use Rattle.definitions.specs.Meaning.{Spot, OnLine, InBlock, AtPoint, AtEnd, Meets, Conflicts}
-use Rattle.meaning.specs.Segments.{turnAt-is, straight-of}
+use Rattle.plane.specs.Segments.{turnAt-is, straight-of}
 
 -- ---- The same words over ℤ
 

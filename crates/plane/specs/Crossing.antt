@@ -11,14 +11,14 @@ use Rattle.algebra.specs.Solve.{solveℕ, re}
 use Rattle.definitions.specs.declared.Point.{Point}
 use Rattle.definitions.specs.Shape.{Line, parts, conflict}
 use Rattle.definitions.specs.Meaning.{spotOf, Spot, OnLine, AtPoint, AtEnd, Conflicts}
-use Rattle.meaning.specs.Compare.{order, cancel, _·_, _⊞_, follows, gap}
-use Rattle.meaning.specs.Says.{both, either, Left, Right, left-says, right-says}
-use Rattle.meaning.specs.Segments.{straight-of, online-back, Weighed, mean-lefts, mean-rights, ahead, weights, inner}
-pub use Rattle.meaning.specs.Segments.{differ, Mix, mix-line, mix-inner}
-unfoldable pub use Rattle.meaning.specs.Segments.{Proper, back}
-use Rattle.meaning.specs.Overlap.{Even, Held, a-in, b-in, c-in, d-in, equal, overlap}
-use Rattle.meaning.specs.Ends.{Within, within-says, end-says, within-by}
-pub use Rattle.meaning.specs.Ends.{OnAt, on→, on←, spot-on}
+use Rattle.plane.specs.Compare.{order, cancel, _·_, _⊞_, follows, gap}
+use Rattle.plane.specs.Says.{both, either, Left, Right, left-says, right-says}
+use Rattle.plane.specs.Segments.{straight-of, online-back, Weighed, mean-lefts, mean-rights, ahead, weights, inner}
+pub use Rattle.plane.specs.Segments.{differ, Mix, mix-line, mix-inner}
+unfoldable pub use Rattle.plane.specs.Segments.{Proper, back}
+use Rattle.plane.specs.Overlap.{Even, Held, a-in, b-in, c-in, d-in, equal, overlap}
+use Rattle.plane.specs.Ends.{Within, within-says, end-says, within-by}
+pub use Rattle.plane.specs.Ends.{OnAt, on→, on←, spot-on}
 
 pub turned : {l m : Line} → Conflicts l m → Conflicts m l
 turned (s, ol, om, f) = (s, om, ol, λ b. f (b .1, b .0))
@@ -30,20 +30,20 @@ unback {l} {m} (s, ol, om, f) = (s, ol, online-back s m om, λ b. f (b .0, ⊎-s
 -- ---- What the test says
 
 -- the ends of m lie strictly on the two sides of l
-abbrev Parts : Line → Line → Type 0
+abbrev pub Parts : Line → Line → Type 0
 Parts l m = (Left l (m .a) × Right l (m .b)) ⊎ (Right l (m .a) × Left l (m .b))
 
-parts-says : (l m : Line) → (parts l m ≡ true) ↔ Parts l m
+pub parts-says : (l m : Line) → (parts l m ≡ true) ↔ Parts l m
 unfolding parts
 parts-says l m = either (both (left-says l (m .a)) (right-says l (m .b))) (both (right-says l (m .a)) (left-says l (m .b)))
 
 -- the test, part by part
-abbrev Clash : Line → Line → Type 0
+abbrev pub Clash : Line → Line → Type 0
 Clash l m =
     ((((Within (l .a) m ⊎ Within (l .b) m) ⊎ Within (m .a) l) ⊎ Within (m .b) l) ⊎ (Parts l m × Parts m l))
     ⊎ (AtEnd (spotOf (l .a)) m × AtEnd (spotOf (l .b)) m)
 
-conflict-says : (l m : Line) → (conflict l m ≡ true) ↔ Clash l m
+pub conflict-says : (l m : Line) → (conflict l m ≡ true) ↔ Clash l m
 unfolding conflict
 conflict-says l m =
     either (either (either (either (either (within-says (l .a) m) (within-says (l .b) m)) (within-says (m .a) l)) (within-says (m .b) l))
@@ -63,11 +63,11 @@ held-clash (equal e f) = inr (e, f)
 hit : (p : Point) (l m : Line) → OnLine (spotOf p) l → Within p m → Conflicts l m
 hit p l m o w = (spotOf p, o, w .0, λ b. w .1 (b .1))
 
-at-a : (l : Line) → OnLine (spotOf (l .a)) l
+pub at-a : (l : Line) → OnLine (spotOf (l .a)) l
 unfolding spotOf
 at-a l = mix-line (spotOf (l .a)) l 1 0 (omega arith, omega arith, omega arith)
 
-at-b : (l : Line) → OnLine (spotOf (l .b)) l
+pub at-b : (l : Line) → OnLine (spotOf (l .b)) l
 unfolding spotOf
 at-b l = mix-line (spotOf (l .b)) l 0 1 (omega arith, omega arith, omega arith)
 
@@ -78,7 +78,7 @@ half-way l m pr ex ey =
     let i : Mix s l 1 1 = (omega arith, omega arith, omega arith) in
     (s, mix-line s l 1 1 i, mix-line s m 1 1 (omega (arith, ex), omega (arith, ey), omega arith), λ b. mix-inner s l 1 1 pr (omega arith) (omega arith) i (b .0))
 
-ends-agree : (l m : Line) → Proper l → AtEnd (spotOf (l .a)) m → AtEnd (spotOf (l .b)) m → Conflicts l m
+pub ends-agree : (l m : Line) → Proper l → AtEnd (spotOf (l .a)) m → AtEnd (spotOf (l .b)) m → Conflicts l m
 unfolding spotOf
 ends-agree l m pr (inl h) (inl k) = absurd (differ l pr (h .sameX ∙ sym (k .sameX)) (h .sameY ∙ sym (k .sameY)))
 ends-agree l m pr (inl h) (inr k) = half-way l m pr (omega (arith, h .sameX, k .sameX)) (omega (arith, h .sameY, k .sameY))
@@ -115,7 +115,7 @@ crossing l m pr hc hd ha hb =
     ) in
     (s, mix-line s l r t i, mix-line s m v u (refl, refl, refl), λ b. mix-inner s l r t pr hr ht i (b .0))
 
-crosses : (l m : Line) → Proper l → Parts l m → Parts m l → Conflicts l m
+pub crosses : (l m : Line) → Proper l → Parts l m → Parts m l → Conflicts l m
 unfolding back
 crosses l m pr (inl h) (inl k) = absurd (omega (arith, h, k))
 crosses l m pr (inl h) (inr k) = crossing l m pr (h .0) (h .1) (k .0) (k .1)
@@ -132,7 +132,7 @@ spot-of l m pr (inr e) = ends-agree l m pr (e .0) (e .1)
 
 -- ---- A spot: the test passes
 
-at? : (s : Spot) (p : Point) → AtPoint s p ⊎ (AtPoint s p → ⊥)
+pub at? : (s : Spot) (p : Point) → AtPoint s p ⊎ (AtPoint s p → ⊥)
 at? s p = go (ℕ-discrete (s .X) (p .x .0 * s .Z)) (ℕ-discrete (s .Y) (p .y .0 * s .Z))
   where
     go : Dec (s .X ≡ p .x .0 * s .Z) → Dec (s .Y ≡ p .y .0 * s .Z) → AtPoint s p ⊎ (AtPoint s p → ⊥)

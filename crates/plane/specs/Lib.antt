@@ -1,0 +1,13 @@
+pub mod Compare
+pub mod Turns
+pub mod Says
+pub mod Segments
+pub mod Ends
+pub mod Meeting
+pub mod Overlap
+pub mod Crossing
+pub mod OneShared
+pub mod MoreShared
+pub mod Kinds
+pub mod Whole
+pub mod Blocks
