@@ -2,21 +2,22 @@
 use mathlib.Core.Path.{_≡_, refl, sym, ap, _∙_, subst}
 use mathlib.Core.Bool.{Bool, true, false}
 use mathlib.Core.List.{List, List·Memᴰ, List·Memᴰ·head}
-use Prim.Native.Nat.{ℕ, _+_, _*_, _<_}
+use Prim.Native.Nat.{ℕ, _+_, _*_, _≤_, _<_}
 use native.Mathlib.Omega.{arith}
 use Rattle.algebra.specs.Words.{every}
+use Rattle.algebra.specs.Tests.{both→}
 use Rattle.definitions.specs.declared.Answer.the-variants.{Done, NoRoom}
 use Rattle.definitions.specs.declared.Given.{Given}
 use Rattle.definitions.specs.Tree.{Rule}
-use Rattle.definitions.specs.Tables.{Tables, slotSound, slotsOf, generation}
+use Rattle.definitions.specs.Tables.{Tables, slotSound, slotsOf, isLive, generation}
 use Rattle.definitions.specs.Calls.{allOnGrid, noLength, withSlot, placed, rebuilt, roomFor, conflicting, insertOf}
 use Rattle.meaning.specs.Changes.{slots-placed}
 use Rattle.meaning.specs.Sound.{sound→}
 use Rattle.tables.specs.declared.Row.{Row}
 use Rattle.tables.specs.declared.Slot.the-variants.{At}
-use Rattle.tables.specs.Rows.{rowAt, rowOf, entriesOf, placed-is}
+use Rattle.tables.specs.Rows.{OnMap, rowAt, rowOf, entriesOf, placed-is}
 use Rattle.tables.specs.Slots.{firstSlotOf, first-at}
-use Rattle.tables.specs.Sound.{FreeSlot, free-found, picked, Tested}
+use Rattle.tables.specs.Sound.{FreeSlot, free-found, picked, on-map, sound-at, Tested}
 use Rattle.tables.specs.Lent.{tables, Replies, Passed, lines-short}
 use Rattle.changes.specs.Changing.{Room, Put, Placing}
 use Rattle.changes.specs.Steps.{insert-0, insert-7}
@@ -25,13 +26,13 @@ module _ {rule : Rule} {lines nodes listings : List ℕ} (w : Passed rule lines 
   pub slots-ok : every (slotSound lines) (slotsOf lines) ≡ true
   slots-ok = sound→ rule (tables lines nodes listings) (w .ok) .slots
 
-  -- a slot that conflicts is one of 1,024
-  pub conflict-low : (g : Given) {s : ℕ} → firstSlotOf (conflicting lines g) ≡ At s → s < 1024
+  -- a slot that conflicts is one of 1,024, and live: its line is on the grid
+  pub conflict-there : (g : Given) {s : ℕ} → firstSlotOf (conflicting lines g) ≡ At s → OnMap lines s × (s ≤ 1023)
   unfolding conflicting
-  conflict-low g {s} e =
+  conflict-there g {s} e =
       let f = first-at (conflicting lines g) e in
       let m = picked lines _ {s = s} (subst (λ (l : List ℕ). List·Memᴰ s l) (sym (f .1)) (List·Memᴰ·head refl)) in
-      omega (arith, m .0, lines-short lines nodes listings (w .fit))
+      (on-map lines s (m .0) (sound-at lines slots-ok (omega (arith, m .0))) (both→ (isLive lines s) _ (m .1) .0), omega (arith, m .0, lines-short lines nodes listings (w .fit)))
 
 pub tested : {rule : Rule} {lines nodes listings : List ℕ} {g : Given} → Passed rule lines nodes listings → allOnGrid g ≡ true → noLength g ≡ false → Tested lines g
 tested w grid long = record { slots = slots-ok w; onGrid = grid; long = long }

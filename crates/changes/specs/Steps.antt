@@ -7,7 +7,7 @@ use Rattle.definitions.specs.declared.Answer.the-variants.{Done, Lengths, Damag
 use Rattle.definitions.specs.declared.Given.{Given}
 use Rattle.definitions.specs.Tree.{Rule}
 use Rattle.definitions.specs.Tables.{Tables, lengthsFit, sound, generation}
-use Rattle.definitions.specs.Calls.{reply, allOnGrid, noLength, conflicting, freeSlots, placed, rebuilt, roomFor, insertOf}
+use Rattle.definitions.specs.Calls.{reply, allOnGrid, noLength, conflicting, conflictDetail, freeSlots, placed, rebuilt, roomFor, insertOf}
 
 module _ (rule : Rule) (t : Tables) (g : Given) where
   pub insert-1 : lengthsFit t ≡ false → insertOf rule t g ≡ reply Lengths t
@@ -30,7 +30,7 @@ module _ (rule : Rule) (t : Tables) (g : Given) where
         insert-4 e = rw (fit, ok, grid, e) refl
 
         module _ (long : noLength g ≡ false) where
-          pub insert-5 : (s : ℕ) (more : List ℕ) → conflicting (t .lines) g ≡ s ∷ more → insertOf rule t g ≡ reply (Conflict s) t
+          pub insert-5 : (s : ℕ) (more : List ℕ) → conflicting (t .lines) g ≡ s ∷ more → insertOf rule t g ≡ reply (Conflict (conflictDetail (t .lines) s g)) t
           unfolding insertOf
           insert-5 s more e = rw (fit, ok, grid, long, e) refl
 

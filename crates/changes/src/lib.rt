@@ -1,6 +1,7 @@
 // The inner steps of insert and delete: a map that has passed the tests is changed, and is sound again.
 use definitions::Answer;
 use definitions::Given;
+use kinds::conflict_detail;
 use tables::Row;
 use tables::Slot;
 use tables::all_on_grid;
@@ -105,7 +106,7 @@ pub fn insert_sound(lines: &mut [u16], nodes: &mut [u16], listings: &mut [u16], 
         return Answer::NoLength;
     }
     if let Slot::At(s) = first_conflict(lines, g) {
-        return Answer::Conflict(s as u32);
+        return Answer::Conflict(conflict_detail(lines, s, g));
     }
     let Slot::At(slot) = free_slot(lines) else {
         return Answer::NoSlot;

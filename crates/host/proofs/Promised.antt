@@ -92,5 +92,5 @@ c-delete-owes = refl
 c-locate-owes : c-locate.Post ≡ λ κs a r e. Answers r (now (e .1 .1 .1 .1 .0)) (locateOf baseRule (tables (now (a .0)) (now (a .1 .0)) (now (a .1 .1 .0))) (now (a .1 .1 .1 .0)) (now (a .1 .1 .1 .1 .0)))
 c-locate-owes = refl
 
-c-version-owes : c-version.Post ≡ λ κs a r e. r ≡ 2000
+c-version-owes : c-version.Post ≡ λ κs a r e. r ≡ 3000
 c-version-owes = refl

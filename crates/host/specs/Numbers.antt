@@ -29,6 +29,6 @@ Tells r lines nodes listings y = (record { number = r; after = tables lines node
 abbrev pub Answers : ℕ → List ℕ → Located → Type 0
 Answers r answers y = (record { number = r; answers = answers }) ≡ counted y
 
--- version 0.2.0, as major, minor and patch
+-- version 0.3.0, as major, minor and patch
 abbrev pub version : ℕ
-version = 0 * 1000000 + 2 * 1000 + 0
+version = 0 * 1000000 + 3 * 1000 + 0

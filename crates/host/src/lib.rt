@@ -18,7 +18,7 @@ fn number(a: Answer) -> u64
         Answer::Damaged => 8589934592,
         Answer::OffGrid => 12884901888,
         Answer::NoLength => 17179869184,
-        Answer::Conflict(s) => 21474836480 + (s as u64),
+        Answer::Conflict(d) => 21474836480 + (d as u64),
         Answer::NoSlot => 25769803776,
         Answer::NoRoom => 30064771072,
         Answer::UnknownHandle => 34359738368,
@@ -92,5 +92,5 @@ pub extern "C" fn boundary_map_locate(
 pub extern "C" fn boundary_map_version() -> u32
     ensures { λ r. ⌜ r ≡ version ⌝ }
 {
-    2000
+    3000
 }

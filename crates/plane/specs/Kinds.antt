@@ -66,10 +66,12 @@ module _ (l m : Line) (pl : Proper l) (pm : Proper m) (clash : conflict l m ≡ 
       let t = both→ (parts l m) (parts m l) e in
       let p = parts-says l m .0 (t .0) in
       let q = parts-says m l .0 (t .1) in
-      let (s, ol, om, f) = crosses l m pl p q in
-      (s, only n ol om,
+      let (s, ol, om, f) = crosses l m pl p q in (
+        s,
+        only n ol om,
         λ h. elim h [ inl i ↦ no-parts m l q (inl (at-even s (l .a) m i om)) | inr i ↦ no-parts m l q (inr (at-even s (l .b) m i om)) ],
-        λ h. elim h [ inl i ↦ no-parts l m p (inl (at-even s (m .a) l i ol)) | inr i ↦ no-parts l m p (inr (at-even s (m .b) l i ol)) ])
+        λ h. elim h [ inl i ↦ no-parts l m p (inl (at-even s (m .a) l i ol)) | inr i ↦ no-parts l m p (inr (at-even s (m .b) l i ol)) ],
+      )
 
   pub overlap-told : isEnd (l .a) m && isEnd (l .b) m ≡ false → inLineOf l m ≡ true → KindIs l m Overlap
   overlap-told n e = let (ec, ed) = in-line-says l m .0 e in (two ec ed (conflict-says l m .0 clash), not-same)

@@ -1,10 +1,13 @@
-use mathlib.Core.Path.{sym, _∙_}
-use native.Mathlib.Omega.{arith}
+use mathlib.Core.Path.{sym, ap, _∙_}
+use Prim.Native.Nat.{ℕ}
 use borrow.Author.Tests.{not-true, not-false}
+use Rattle.definitions.specs.declared.Answer.the-variants.{Conflict}
+use Rattle.definitions.specs.Calls.{reply}
 use Rattle.definitions.specs.Tree.{baseRule}
+use Rattle.tables.specs.Lent.{tables}
 use Rattle.tables.specs.Slots.{first-at, first-none}
 use Rattle.changes.specs.Steps.{insert-3, insert-4, insert-5, insert-6}
-use Rattle.changes.proofs.Inserts.{conflict-low, tested}
+use Rattle.changes.proofs.Inserts.{conflict-there, tested}
 use borrow.Author.Needs.{needs}
 use Rattle.changes.proofs.insert_sound.Statement.{statement}
 use Rattle.changes.proofs.insert_sound.Tie as tie
@@ -27,14 +30,19 @@ first-conflict-requires c κs = tested (c .before .before .before .before .befor
 enum-known-s : tie.Need-enum-known-s
 enum-known-s c = search needs
 
-cast-t13 : tie.Need-cast-t13
-cast-t13 c = record { fits = omega (arith, conflict-low (c .before .before .before .before .before .before .before .before .before .before .before .before .pre) (c .before .before .before .before .before .before .before .before .before .before .before .before .args .g) (sym (c .before .before .before .first-conflict .ensures) ∙ c .before .s .given .1)) }
+conflict-detail-requires : tie.Need-conflict-detail-requires
+conflict-detail-requires c κs = let o = c .before in let w = o .before .before .before .before .before .before .before .before .before .before .before .before in
+    let h = conflict-there (w .pre) (w .args .g) (sym (o .before .before .before .first-conflict .ensures) ∙ o .before .s .given .1) in
+    (h .0, h .1, sym (o .before .before .before .before .before .before .before .before .all-on-grid .ensures) ∙ not-false _ (o .before .before .before .before .before .before .before .if1 .left))
 
 same-length : tie.Need-same-length
 same-length c = search needs
 
 returns-3 : tie.Need-returns-3
-returns-3 c = let f = first-at _ (sym (c .before .before .before .first-conflict .ensures) ∙ c .before .s .given .1) in sym (insert-5 baseRule _ _ (c .before .before .before .before .before .before .before .before .before .before .before .before .pre .fit) (c .before .before .before .before .before .before .before .before .before .before .before .before .pre .ok) (sym (c .before .before .before .before .before .before .before .before .all-on-grid .ensures) ∙ not-false _ (c .before .before .before .before .before .before .before .if1 .left)) (sym (c .before .before .before .before .before .before .no-length .ensures) ∙ c .before .before .before .before .before .if2 .left) _ (f .0) (f .1))
+returns-3 c = let o = c .before .before in let w = o .before .before .before .before .before .before .before .before .before .before .before .before in
+    let f = first-at _ (sym (o .before .before .before .first-conflict .ensures) ∙ o .before .s .given .1) in
+    ap (λ (d : ℕ). reply (Conflict d) (tables (w .args .lines .now) (w .args .nodes .now) (w .args .listings .now))) (c .conflict-detail .ensures)
+    ∙ sym (insert-5 baseRule _ _ (w .pre .fit) (w .pre .ok) (sym (o .before .before .before .before .before .before .before .before .all-on-grid .ensures) ∙ not-false _ (o .before .before .before .before .before .before .before .if1 .left)) (sym (o .before .before .before .before .before .before .no-length .ensures) ∙ o .before .before .before .before .before .if2 .left) _ (f .0) (f .1))
 
 enum-told : tie.Need-enum-told
 enum-told c = search needs
@@ -79,7 +87,7 @@ insert-sound-spec =
     returns-2
     first-conflict-requires
     enum-known-s
-    cast-t13
+    conflict-detail-requires
     same-length
     returns-3
     enum-told

@@ -1,0 +1,57 @@
+use mathlib.Core.Path.{_≡_, sym, ap, ap₂, _∙_}
+use Prim.Native.Nat.{ℕ, _+_, _*_}
+use native.Mathlib.Omega.{arith}
+use borrow.Author.Needs.{needs}
+use Rattle.definitions.specs.declared.Kind.{Kind}
+use Rattle.definitions.specs.Calls.{givenLine, kindNumber, conflictDetail}
+use Rattle.definitions.specs.Tables.{lineAt}
+use Rattle.definitions.specs.Shape.{Line, kindOf}
+use Rattle.geometry.specs.Means.{lineOf, lineFrom}
+use Rattle.tables.specs.declared.Row.{Row}
+use Rattle.tables.specs.Rows.{rowAt, OnMap}
+use Rattle.tables.specs.Sound.{given-on-grid}
+use Rattle.kinds.specs.Detail.{detail-is}
+use Rattle.kinds.proofs.conflict_detail.Statement.{statement}
+use Rattle.kinds.proofs.conflict_detail.Tie as tie
+
+row-at-requires : tie.Need-row-at-requires
+row-at-requires c κs = c .before .pre .0 .there
+
+line-of-row-requires : tie.Need-line-of-row-requires
+line-of-row-requires c κs = let m = c .before .before .pre .0 in rw (c .row-at .ensures) (m .gridX1, m .gridY1, m .gridX2, m .gridY2)
+
+line-of-requires : tie.Need-line-of-requires
+line-of-requires c κs = given-on-grid _ (c .before .before .before .pre .2)
+
+kind-of-requires : tie.Need-kind-of-requires
+kind-of-requires c κs = search needs
+
+kind-number-requires : tie.Need-kind-number-requires
+kind-number-requires c κs = search needs
+
+mul-result : tie.Need-mul-result
+mul-result c = search needs
+
+cast-result : tie.Need-cast-result
+cast-result c = search needs
+
+add-result : tie.Need-add-result
+add-result c = search needs
+
+returns : tie.Need-returns
+returns c = let k = c .before in let m = k .before in let l = m .before in let r = l .before in let a = r .before .before .args in
+    detail-is (a .lines .now) (a .s) (a .g) (r .row-at .ensures) (l .line-of-row .ensures) (m .line-of .ensures) (k .kind-of .ensures) (c .kind-number .ensures .0)
+
+pub conflict-detail-spec : {M : Type 1} → statement M
+conflict-detail-spec =
+    tie.close
+    (tie.spec
+    row-at-requires
+    line-of-row-requires
+    line-of-requires
+    kind-of-requires
+    kind-number-requires
+    mul-result
+    cast-result
+    add-result
+    returns)
