@@ -3,7 +3,7 @@
 -- Arguments: a .0 is the first, a .1 .0 the second, a .1 .1 .0 the third, and so on; e likewise at the call's end; r is the result.
 use mathlib.Core.Path.{_≡_, refl}
 use denote.Ref.{now}
-use Rattle.definitions.specs.Calls.{startOf, insertOf, deleteOf}
+use Rattle.definitions.specs.Calls.{numberOf, startOf, insertOf, deleteOf}
 use Rattle.definitions.specs.Lookup.{locateOf, showOf}
 use Rattle.definitions.specs.Tree.{baseRule}
 use Rattle.tables.specs.Lent.{tables, Replies, Locates}
@@ -15,6 +15,7 @@ use Rattle.map.proofs.delete.Reads as delete
 use Rattle.map.proofs.locate.Reads as locate
 use Rattle.map.proofs.show_leaf.Reads as show-leaf
 use Rattle.map.proofs.show_part.Reads as show-part
+use Rattle.host.proofs.number.Reads as number
 use Rattle.host.proofs.boundary_map_start.Reads as c-start
 use Rattle.host.proofs.boundary_map_insert.Reads as c-insert
 use Rattle.host.proofs.boundary_map_delete.Reads as c-delete
@@ -40,6 +41,9 @@ show-leaf-asks = refl
 
 show-part-asks : show-part.Asked ≡ λ κs a. Unit {0}
 show-part-asks = refl
+
+number-asks : number.Asked ≡ λ κs a. Unit {0}
+number-asks = refl
 
 c-start-asks : c-start.Asked ≡ λ κs a. Unit {0}
 c-start-asks = refl
@@ -77,6 +81,9 @@ show-part-owes : show-part.Post ≡ λ κs a r e. HandsBack r (a .1 .1 .0) (show
 show-part-owes = refl
 
 -- ---- What the C host is owed
+
+number-owes : number.Post ≡ λ κs a r e. r ≡ numberOf (a .0)
+number-owes = refl
 
 c-start-owes : c-start.Post ≡ λ κs a r e. Tells r (now (e .0)) (now (e .1 .0)) (now (e .1 .1 .0)) (startOf (tables (now (a .0)) (now (a .1 .0)) (now (a .1 .1 .0))))
 c-start-owes = refl

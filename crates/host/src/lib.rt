@@ -9,7 +9,7 @@ ghost use Rattle.tables.specs.Lent.{tables};
 ghost use Rattle.host.specs.Numbers.{Tells, Answers, version};
 
 // refusal x 4,294,967,296 + detail
-fn number(a: Answer) -> u64
+pub fn number(a: Answer) -> u64
     ensures { λ r. ⌜ r ≡ numberOf a ⌝ }
 {
     match a {

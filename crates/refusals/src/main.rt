@@ -163,8 +163,8 @@ fn lowest_slot() {
     end();
 }
 
-// They share an end, and points beside it; the older end lies within the new line; they cross at height 0.5.
-fn touching() {
+// Overlap: they share an end, and points beside it. Touching: the older end lies within the new line. Crossing: at height 0.5.
+fn three_kinds() {
     let b = case(b"5 part of a line");
     let b = add(b, 0, 0, 10, 0);
     add(b, 0, 0, 5, 0);
@@ -278,7 +278,7 @@ fn main() {
     no_length();
     crossing();
     lowest_slot();
-    touching();
+    three_kinds();
     near_miss();
     no_slot();
     no_room();

@@ -1,5 +1,6 @@
 // One step of a case each: a call on the lent tables, and its numbers printed.
 use definitions::Answer;
+use host::number;
 use libc::STDOUT_FILENO;
 
 pub fn word(s: &[u8]) {
@@ -28,23 +29,11 @@ fn wider(v: u32) -> u64 {
     v as u64
 }
 
-fn refusal_and_detail(refusal: u64, detail: u32) {
-    put(refusal);
-    put(detail as u64);
-}
-
+// Refusal and detail.
 pub fn tell(a: Answer) {
-    match a {
-        Answer::Done(d) => refusal_and_detail(0, d),
-        Answer::Lengths => refusal_and_detail(1, 0),
-        Answer::Damaged => refusal_and_detail(2, 0),
-        Answer::OffGrid => refusal_and_detail(3, 0),
-        Answer::NoLength => refusal_and_detail(4, 0),
-        Answer::Conflict(s) => refusal_and_detail(5, s),
-        Answer::NoSlot => refusal_and_detail(6, 0),
-        Answer::NoRoom => refusal_and_detail(7, 0),
-        Answer::UnknownHandle => refusal_and_detail(8, 0),
-    }
+    let n = number(a);
+    put(n / 4294967296);
+    put(n % 4294967296);
 }
 
 fn entry(t: &[u16], i: usize) {
