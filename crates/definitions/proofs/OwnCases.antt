@@ -72,12 +72,15 @@ pub record OwnCases : Type 0 where
   pub offGrid : numbers baseRule (twoSides 4) (line 16384 0 0 0 ∷ line 16384 0 16384 0 ∷ show 0 16384 ∷ []) ≡ refusal 3 0 ∷ refusal 3 0 ∷ refusal 3 0 ∷ []
   pub noLength : numbers baseRule (twoSides 4) (line 5 5 5 5 ∷ line 0 5 0 5 ∷ []) ≡ refusal 4 0 ∷ refusal 4 0 ∷ []
   pub conflicts : numbers baseRule (twoSides 4) (line 16383 9 0 9 ∷ line 16382 9 16383 9 ∷ []) ≡ refusal 5 131072 ∷ refusal 5 131074 ∷ []
-  -- 5's detail: the number of each kind, and on a map of three lines; crossing; touching, with an end of either; overlap, from within, from a common end and past
-  -- both ends; same, also reversed; and of two lines in the way the first's kind, not the graver one's
+  -- the kinds in their order
   pub kinds : kindNumber Crossing ∷ kindNumber Touching ∷ kindNumber Overlap ∷ kindNumber Same ∷ [] ≡ 1 ∷ 2 ∷ 3 ∷ 4 ∷ []
+  -- 5 with its kind and slot, on a map of three lines: crossing, also drawn back
   pub crossed : numbers baseRule threeWays (line 5000 8000 6000 9000 ∷ line 6000 9000 5001 8000 ∷ []) ≡ refusal 5 65537 ∷ refusal 5 65537 ∷ []
+  -- touching: the given line's first end, a live line's end, the given line's second end
   pub touched : numbers baseRule threeWays (line 5000 8192 6000 9000 ∷ line 0 8000 0 9000 ∷ line 700 9 0 1 ∷ []) ≡ refusal 5 131073 ∷ refusal 5 131073 ∷ refusal 5 131074 ∷ []
+  -- overlap: a part, a part from a common end, past an end; and of two lines in the way the lower slot's kind, which is touching, though the other is overlapped
   pub overlapped : numbers baseRule threeWays (line 5000 8192 6000 8192 ∷ line 0 8192 1 8192 ∷ line 0 4001 0 1 ∷ line 0 16383 0 0 ∷ []) ≡ refusal 5 196609 ∷ refusal 5 196609 ∷ refusal 5 196610 ∷ refusal 5 131073 ∷ []
+  -- same, also reversed
   pub sames : numbers baseRule threeWays (line 0 0 16383 0 ∷ line 16383 0 0 0 ∷ line 0 8192 16383 8192 ∷ line 0 4000 0 0 ∷ []) ≡ refusal 5 262144 ∷ refusal 5 262144 ∷ refusal 5 262145 ∷ refusal 5 262146 ∷ []
   pub noSlot : numbers baseRule threeSides (line 5 5 6 6 ∷ line 0 5 6 6 ∷ []) ≡ refusal 6 0 ∷ refusal 5 131072 ∷ []
   pub noRoom : numbers baseRule (twoSides 4) (line 5 5 6 6 ∷ []) ≡ refusal 7 0 ∷ []

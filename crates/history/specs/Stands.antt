@@ -9,7 +9,7 @@ use Rattle.definitions.specs.Tables.{Tables}
 use Rattle.definitions.specs.Tree.{Rule}
 use Rattle.history.specs.Demand.{Held, Heard, heard, liveHeld, Gave, Took, NeverTook, Stands, now, after}
 use Rattle.history.specs.Held.{heldAfter, heldBy, live-exact}
-use mathlib.Core.Path.{subst, _≡_, refl, sym, _∙_, ap}
+use mathlib.Core.Path.{subst, _≡_, refl, sym, ap}
 use mathlib.Core.Logic.{_⊎_, inl, inr, _↔_}
 use mathlib.Core.Bool.{Bool, true, false, not}
 use mathlib.Core.List.{List, [], _∷_, List·Memᴰ, List·Memᴰ·head, List·Memᴰ·tail, List·Memᴰ·not-nil, List·Memᴰ·cases-cons}

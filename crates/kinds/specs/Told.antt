@@ -1,7 +1,7 @@
 -- How the code tells the kind of a conflict.
 use mathlib.Core.Path.{_≡_, sym, _∙_, ap₂, refl}
 use mathlib.Core.Bool.{Bool, true, false, _&&_}
-use Rattle.algebra.specs.Words.{isZero, if_then_else_}
+use Rattle.algebra.specs.Words.{isZero}
 use Rattle.definitions.specs.Shape.{Line, turn, isEnd, parts, leftOf, rightOf, inLineOf, kindOf}
 use Rattle.definitions.specs.declared.Kind.the-variants.{Crossing, Touching, Overlap, Same}
 use Rattle.geometry.specs.Means.{bothApart}

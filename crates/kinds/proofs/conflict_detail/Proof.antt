@@ -1,14 +1,4 @@
-use mathlib.Core.Path.{_≡_, sym, ap, ap₂, _∙_}
-use Prim.Native.Nat.{ℕ, _+_, _*_}
-use native.Mathlib.Omega.{arith}
 use borrow.Author.Needs.{needs}
-use Rattle.definitions.specs.declared.Kind.{Kind}
-use Rattle.definitions.specs.Calls.{givenLine, kindNumber, conflictDetail}
-use Rattle.definitions.specs.Tables.{lineAt}
-use Rattle.definitions.specs.Shape.{Line, kindOf}
-use Rattle.geometry.specs.Means.{lineOf, lineFrom}
-use Rattle.tables.specs.declared.Row.{Row}
-use Rattle.tables.specs.Rows.{rowAt, OnMap}
 use Rattle.tables.specs.Sound.{given-on-grid}
 use Rattle.kinds.specs.Detail.{detail-is}
 use Rattle.kinds.proofs.conflict_detail.Statement.{statement}
