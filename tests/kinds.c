@@ -149,7 +149,7 @@ static void put_all_ways(const struct stroke *a, const struct stroke *b)
 }
 
 /* Two lines with all ends in the row overlap, are the same, or share an end or nothing; where ends stray they may
- * cross. The second is made the first, or to hang on its middle, as chance seldom does. */
+ * cross. Lines that are the same, and lines that hang on another's middle, are made so: chance makes too few. */
 static void draw_pair(struct stroke *a, struct stroke *b)
 {
     choose_yard();
@@ -204,14 +204,17 @@ static void ask_yard(void)
 
     choose_yard();
     yard.strays = 2;
-    for (times = 0; times < 15; times++) {
+    for (times = 0; times < 12; times++) {
         draw_in_yard(&s);
         insert_stroke(&s);
     }
     keep();
-    for (times = 0; times < 10; times++) {
-        yard.strays = between(0, 2);
+    for (times = 0; times < 4; times++) {
         draw_in_yard(&s);
+        if (one_in(2)) {                        /* all along the row, where most lines are */
+            in_row(&s.x1, &s.y1, 0);
+            in_row(&s.x2, &s.y2, 3);
+        }
         ask_one_after_another(&s);
     }
 }
@@ -220,7 +223,7 @@ void part_several(void)
 {
     int yards;
 
-    for (yards = 0; yards < 3; yards++) {
+    for (yards = 0; yards < 8; yards++) {
         begin(12, 3000, 3000);
         ask_yard();
     }
