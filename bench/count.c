@@ -1,5 +1,6 @@
 /* One call of one way on one map, for counting its instructions: count library|twin CALL MAP, where CALL is
-** soundness, insert, delete, locate1 or locate10000. No other call is made, so a counter that starts at its name sees it alone. */
+** soundness, insert, refused, delete, locate1 or locate10000. Refused is an insert of the map's last line once more: every
+** line is tested before it. No other call is made, so a counter that starts at its name sees it alone. */
 #include "mapfile.h"
 #include "ways.h"
 
@@ -30,7 +31,7 @@ static uint64_t locate(int library, size_t count) {
 static uint64_t call(int library, const char *what, size_t count) {
   uint32_t first = boundary_map_handle(0, 1);
   struct row last = rows[count - 1];
-  if (!strcmp(what, "insert"))
+  if (!strcmp(what, "insert") || !strcmp(what, "refused"))
     return library ? boundary_map_insert(MAP_OF(&map), ROW_OF(last)) : twin_insert(MAP_OF(&map), ROW_OF(last));
   if (!strcmp(what, "delete")) return library ? boundary_map_delete(MAP_OF(&map), first) : twin_delete(MAP_OF(&map), first);
   if (!strcmp(what, "locate10000")) return locate(library, POINTS);
@@ -43,5 +44,6 @@ int main(int argc, char **argv) {
   size_t count = read_rows(argv[3], rows);
   for (size_t i = 0; i < 2 * POINTS; i++) points[i] = (uint16_t)some(16384);
   load(strcmp(argv[2], "insert") ? count : count - 1);
-  return boundary_map_refusal(call(library, argv[2], count)) ? 1 : 0;
+  uint32_t wanted = strcmp(argv[2], "refused") ? BOUNDARY_MAP_DONE : BOUNDARY_MAP_CONFLICT;
+  return boundary_map_refusal(call(library, argv[2], count)) != wanted;
 }

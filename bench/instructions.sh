@@ -12,12 +12,12 @@ counted() {
 }
 
 name_of() {
-  case $1 in insert | delete) echo "$1" ;; *) echo locate ;; esac
+  case $1 in insert | delete) echo "$1" ;; refused) echo insert ;; *) echo locate ;; esac
 }
 
 printf '%-11s %-12s %12s %12s %8s\n' map call library twin 'of twin'
 for map in fields100 fields1000 hub1000; do
-  for call in soundness insert delete locate1 locate10000; do
+  for call in soundness insert delete locate1 locate10000 refused; do
     library=$(counted "boundary_map_$(name_of $call)" library $call $map)
     twin=$(counted "twin_$(name_of $call)" twin $call $map)
     printf '%-11s %-12s %12d %12d %8s\n' $map $call "$library" "$twin" "$(awk "BEGIN{printf \"%.3f\", $library/$twin}")"

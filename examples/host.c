@@ -40,8 +40,9 @@ int main(void) {
   printf("its handle is %lu\n", (unsigned long)fence);
   ask();
 
-  uint32_t in_the_way = say("insert a crossing line", boundary_map_insert(MAP, 40, 0, 40, 16383, 7, 9));
-  printf("the line in slot %lu is in the way\n", (unsigned long)boundary_map_conflict_slot(in_the_way));
+  uint32_t conflict = say("insert another", boundary_map_insert(MAP, 40, 0, 40, 16383, 7, 9));
+  printf("it %s the line in slot %lu\n", boundary_map_kindstr(boundary_map_conflict_kind(conflict)),
+         (unsigned long)boundary_map_conflict_slot(conflict));
 
   say("delete", boundary_map_delete(MAP, fence));
   say("delete again", boundary_map_delete(MAP, fence));

@@ -1,5 +1,6 @@
-/* Document 01's numbers, P1 to P11 and the case that is only run, over the C boundary. Each is written out
- * here by hand and asked twice: of the library, and of the plain search that the other tests rest on. */
+/* Document 01's numbers, P1 to P11 and the case that is only run, and pairs of lines of each kind of conflict, over
+ * the C boundary. Each is written out here by hand and asked twice: of the library, and of the plain search that the
+ * other tests rest on. */
 #include "library.h"
 #include "plain.h"
 
@@ -201,8 +202,8 @@ static void p6(void)
 {
     fresh_large();
     EXPECT(insert(0, 0, 10, 0) == 1);
-    EXPECT(insert(5, 0, 5, 5) == refused(5, 0));
-    EXPECT(insert(10, 0, 0, 0) == refused(5, 0));
+    EXPECT(insert(5, 0, 5, 5) == refused(5, 131072));
+    EXPECT(insert(10, 0, 0, 0) == refused(5, 262144));
 }
 
 static void p7(void)
@@ -257,6 +258,67 @@ static void p11(void)
     EXPECT(locate(0, 5) == 2);
 }
 
+/* A line in the map, one given, and the detail of refusal 5; where it is 0 the given line is taken. */
+static const struct {
+    const char *how;
+    uint16_t live[4], given[4];
+    uint64_t detail;
+} pairs[] = {
+    { "crossing on the grid", { 0, 0, 10, 10 }, { 0, 10, 10, 0 }, 65536 },
+    { "crossing between grid points", { 0, 0, 16383, 16383 }, { 0, 16383, 16383, 0 }, 65536 },
+    { "crossing, upright and level", { 5, 0, 5, 10 }, { 0, 3, 10, 3 }, 65536 },
+    { "crossing half a step from an end", { 5, 0, 5, 10 }, { 4, 0, 6, 1 }, 65536 },
+    { "touching with an end of the given", { 0, 0, 10, 0 }, { 3, 0, 7, 9 }, 131072 },
+    { "touching with an end of the live line", { 3, 0, 7, 9 }, { 10, 0, 0, 0 }, 131072 },
+    { "touching an upright line", { 0, 0, 0, 10 }, { 0, 5, 8, 5 }, 131072 },
+    { "touching with an upright line", { 0, 5, 8, 5 }, { 0, 10, 0, 0 }, 131072 },
+    { "touching in the middle of the map", { 0, 0, 16382, 16382 }, { 16383, 0, 8191, 8191 }, 131072 },
+    { "overlap from a shared end, shorter", { 0, 0, 10, 0 }, { 0, 0, 5, 0 }, 196608 },
+    { "overlap from a shared end, longer", { 0, 0, 5, 0 }, { 10, 0, 0, 0 }, 196608 },
+    { "overlap with a part", { 0, 0, 10, 0 }, { 3, 0, 7, 0 }, 196608 },
+    { "overlap with the whole, upright", { 0, 3, 0, 7 }, { 0, 10, 0, 0 }, 196608 },
+    { "overlap beyond an end, slanted", { 0, 0, 6, 6 }, { 4, 4, 9, 9 }, 196608 },
+    { "same", { 0, 0, 10, 0 }, { 0, 0, 10, 0 }, 262144 },
+    { "same, reversed", { 0, 0, 3, 7 }, { 3, 7, 0, 0 }, 262144 },
+    { "same, from corner to corner", { 0, 16383, 16383, 0 }, { 16383, 0, 0, 16383 }, 262144 },
+    { "no conflict straight on", { 0, 0, 10, 0 }, { 10, 0, 20, 0 }, 0 },
+    { "no conflict at an angle", { 0, 0, 10, 0 }, { 7, 3, 10, 0 }, 0 },
+    { "no conflict a step beside", { 0, 0, 10, 0 }, { 5, 1, 5, 9 }, 0 },
+    { "no conflict a step on", { 0, 0, 10, 0 }, { 11, 0, 20, 0 }, 0 },
+};
+
+static void kinds(void)
+{
+    size_t i;
+
+    for (i = 0; i < sizeof pairs / sizeof *pairs; i++) {
+        const uint16_t *l = pairs[i].live, *g = pairs[i].given;
+        uint64_t wanted = pairs[i].detail == 0 ? 65536 + 1 : refused(5, pairs[i].detail);
+
+        fresh_large();
+        EXPECT(insert(l[0], l[1], l[2], l[3]) == 1);
+        expect(insert(g[0], g[1], g[2], g[3]) == wanted, pairs[i].how);
+    }
+}
+
+/* A line over three others: whichever stands in the lowest slot, its kind is told. */
+static void lowest_slot_kind(void)
+{
+    fresh_large();
+    EXPECT(insert(4, 5, 4, 0) == 1);
+    EXPECT(insert(2, 5, 2, 9) == 65536 + 1);
+    EXPECT(insert(6, 5, 8, 5) == 2 * 65536 + 1);
+    EXPECT(insert(0, 5, 10, 5) == refused(5, 131072));
+    EXPECT(delete_handle(1) == 0);
+    EXPECT(insert(4, 8, 4, 0) == 2);
+    EXPECT(insert(0, 5, 10, 5) == refused(5, 65536));
+    EXPECT(delete_handle(2) == 0);
+    EXPECT(insert(0, 5, 10, 5) == refused(5, 131072 + 1));
+    EXPECT(delete_handle(65536 + 1) == 0);
+    EXPECT(insert(0, 5, 10, 5) == refused(5, 196608 + 2));
+    EXPECT(insert(8, 5, 6, 5) == refused(5, 262144 + 2));
+}
+
 static size_t skip_block(size_t at, size_t *listed)
 {
     size_t left = 1;
@@ -307,6 +369,7 @@ static const struct {
 } cases[] = {
     { "P1", p1 }, { "P2", p2 }, { "P3", p3 }, { "P4", p4 },    { "P5", p5 },   { "P6", p6 },
     { "P7", p7 }, { "P8", p8 }, { "P9", p9 }, { "P10", p10 },  { "P11", p11 }, { "the run case", run_only },
+    { "the kinds", kinds }, { "the lowest slot's kind", lowest_slot_kind },
 };
 
 int main(void)

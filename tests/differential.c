@@ -20,7 +20,7 @@ static const struct {
     { "garbage", part_garbage, 1 },     { "one fault", part_one_fault, 1 }, { "noise", part_noise, 1 },
     { "orders", part_orders, 1 },       { "lengths", part_lengths, 1 },     { "room", part_room, 1 },
     { "hubs", part_hubs, 1 },           { "large", part_large, 3 },         { "full", part_full, 15 },
-    { "great fans", part_great_fans, 15 },
+    { "great fans", part_great_fans, 15 }, { "pairs", part_pairs, 1 },   { "several", part_several, 1 },
 };
 
 enum { PARTS = sizeof parts / sizeof *parts };
@@ -63,6 +63,9 @@ static void report(void)
     printf("differential: answers by refusal:");
     for (i = 0; i < 9; i++)
         printf(" %zu %llu%s", i, (unsigned long long)met.refusals[i], i + 1 < 9 ? "," : "\n");
+    printf("differential: conflicts by kind: crossing %llu, touching %llu, overlap %llu, same %llu\n",
+           (unsigned long long)met.kinds[1], (unsigned long long)met.kinds[2], (unsigned long long)met.kinds[3],
+           (unsigned long long)met.kinds[4]);
     printf("differential: points: outside or unlabelled %llu, labelled %llu, on a line %llu, off the grid %llu\n",
            (unsigned long long)met.answers[ANSWER_NONE], (unsigned long long)met.answers[ANSWER_LABEL],
            (unsigned long long)met.answers[ANSWER_ON_LINE], (unsigned long long)met.answers[ANSWER_OFF_GRID]);
@@ -73,14 +76,29 @@ static void report(void)
            (unsigned long long)met.calls);
 }
 
+/* A refusal or a kind that never came back was not tested: then the run has failed, though nothing differed. */
+static int never_seen(void)
+{
+    int i, none = report_kinds();
+
+    for (i = 0; i < 9; i++)
+        none += met.refusals[i] == 0;
+    for (i = 1; i < KINDS; i++)
+        none += met.kinds[i] == 0;
+    if (none > 0)
+        printf("differential: %d of the counts above are 0, and none may be\n", none);
+    return none > 0;
+}
+
 int main(void)
 {
     uint64_t wanted = setting("CALLS", 500000), first_seed = setting("SEED", 1), round;
-    int most_failures = setting("FIRST", 0) != 0 ? 1 : PARTS;
+    int most_failures = setting("FIRST", 0) != 0 ? 1 : PARTS, unseen;
 
     for (round = 0; met.calls < wanted && failures() < most_failures; round++)
         run_round(round, first_seed, most_failures);
     report();
-    printf("differential: %d passed, %d failed\n", PARTS - failures(), failures());
-    return failures() != 0;
+    unseen = never_seen();
+    printf("differential: %d passed, %d failed\n", PARTS - failures(), failures() + unseen);
+    return failures() + unseen != 0;
 }

@@ -188,7 +188,7 @@ void ask_points(size_t most)
 
 /* Strokes */
 
-static void turn_over(struct stroke *s)
+void turn_over(struct stroke *s)
 {
     struct stroke t = *s;
 

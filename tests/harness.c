@@ -308,6 +308,8 @@ static int same_lent(const struct lent *library, const struct lent *plain)
 static void count_call(uint64_t plain)
 {
     met.refusals[plain >> 32]++;
+    if (plain >> 32 == 5)
+        met.kinds[(plain & 0xffffffff) >> 16]++;
     if (map.plain.verdict != PLAIN_SOUND)
         return;
     met.sound_calls++;

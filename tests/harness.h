@@ -62,9 +62,13 @@ void fail(const char *what);
 /* What was met on the way: it tells whether a test asked for anything at all. */
 enum { ANSWER_NONE, ANSWER_LABEL, ANSWER_ON_LINE, ANSWER_OFF_GRID, ANSWERS };
 
+/* How many numbers a kind of conflict can have, with 0 for no conflict. */
+enum { KINDS = 5 };
+
 extern struct met {
     uint64_t calls;
     uint64_t refusals[9];                /* how often each number from 0 to 8 came back */
+    uint64_t kinds[KINDS];               /* of the refusals 5, how often each kind from 1 to 4 was told */
     uint64_t answers[ANSWERS];           /* of locate, by kind */
     uint64_t sound_calls, live_lines;    /* calls on sound maps, and the lines these had, summed up */
     uint64_t most_lines;

@@ -1,5 +1,6 @@
 /* The installed header beside the library that is linked: it declares the calls as the tests do, or this does not
- * compile; both are of one version; its check of a map tells a sound one from a damaged one; and a map lent longer goes on. */
+ * compile; both are of one version; its check of a map tells a sound one from a damaged one; it tells how lines conflict;
+ * and a map lent longer goes on. */
 #include "library.h"
 
 #include "../include/boundary_map.h"
@@ -16,6 +17,7 @@ static struct boundary_map map = { lines, BOUNDARY_MAP_LINES_LEN(2), nodes, 64, 
 static void version(void)
 {
     EXPECT(boundary_map_version() == BOUNDARY_MAP_VERSION_NUMBER);
+    EXPECT(BOUNDARY_MAP_VERSION_NUMBER == 3000);
 }
 
 static void check_tells(void)
@@ -70,12 +72,24 @@ static void lent_longer(void)
     EXPECT(boundary_map_refusal(boundary_map_delete(BOUNDARY_MAP_LENT(&map), 1)) == BOUNDARY_MAP_UNKNOWN_HANDLE);
 }
 
-static void conflict_named(void)
+/* The level line across the map is in slot 0, and the one given is told how it lies to it. */
+static void conflict_told(uint16_t x1, uint16_t y1, uint16_t x2, uint16_t y2, uint32_t kind, const char *words)
 {
-    uint64_t refused = boundary_map_insert(BOUNDARY_MAP_LENT(&map), 40, 0, 40, 16383, 7, 9);
+    uint64_t refused = boundary_map_insert(BOUNDARY_MAP_LENT(&map), x1, y1, x2, y2, 7, 9);
+    uint32_t detail = boundary_map_detail(refused);
 
     EXPECT(boundary_map_refusal(refused) == BOUNDARY_MAP_CONFLICT);
-    EXPECT(boundary_map_conflict_slot(boundary_map_detail(refused)) == 0);
+    EXPECT(boundary_map_conflict_slot(detail) == 0);
+    EXPECT(boundary_map_conflict_kind(detail) == kind);
+    EXPECT(strcmp(boundary_map_kindstr(boundary_map_conflict_kind(detail)), words) == 0);
+}
+
+static void conflicts_told(void)
+{
+    conflict_told(40, 0, 40, 16383, BOUNDARY_MAP_CROSSING, "crosses");
+    conflict_told(40, 0, 40, 8000, BOUNDARY_MAP_TOUCHING, "touches");
+    conflict_told(40, 8000, 50, 8000, BOUNDARY_MAP_OVERLAP, "overlaps");
+    conflict_told(16383, 8000, 0, 8000, BOUNDARY_MAP_SAME, "is the same as");
 }
 
 int main(void)
@@ -84,7 +98,7 @@ int main(void)
     check_tells();
     after_damage();
     label_changed();
-    conflict_named();
+    conflicts_told();
     lent_longer();
     return tallied(PART);
 }

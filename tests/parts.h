@@ -27,6 +27,12 @@ void part_noise(void);
 void part_lengths(void);
 void part_room(void);
 
+/* kinds.c: how two lines conflict */
+void part_pairs(void);
+void part_several(void);
+/* Prints what these two saw of each kind, and says how many things they never saw. */
+int report_kinds(void);
+
 /* What both use */
 
 struct stroke {
@@ -38,6 +44,8 @@ void choose_frame(void);
 /* Two places in the frame, or a stroke that has to do with a line that is there. */
 void draw_anyhow(struct stroke *s);
 uint16_t any_label(void);
+/* Its ends changed over, and its labels. */
+void turn_over(struct stroke *s);
 /* Moves one of its four coordinates off the grid, most often by one. */
 void put_off_grid(struct stroke *s);
 uint64_t insert_stroke(const struct stroke *s);

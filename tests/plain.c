@@ -113,7 +113,9 @@ static struct plain_line make_line(size_t slot, uint16_t x1, uint16_t y1, uint16
     return l;
 }
 
-/* Conflict: a common point that is not an end of both */
+/* The points that two lines share: none, one, or more than one; of one, how many of the two lines end there */
+
+enum shared { NO_POINT, INSIDE_BOTH, END_OF_ONE, END_OF_BOTH, MORE_POINTS };
 
 static int end_at(const struct plain_line *l, int64_t x, struct fraction y)
 {
@@ -121,65 +123,86 @@ static int end_at(const struct plain_line *l, int64_t x, struct fraction y)
         || (l->east.x == x && compare_whole(y, l->east.y) == 0);
 }
 
-static int end_of_both(const struct plain_line *a, const struct plain_line *b, int64_t x, struct fraction y)
+static enum shared one_point(const struct plain_line *a, const struct plain_line *b, int64_t x, struct fraction y)
 {
-    return end_at(a, x, y) && end_at(b, x, y);
+    static const enum shared by_ends[] = { INSIDE_BOTH, END_OF_ONE, END_OF_BOTH };
+
+    return by_ends[end_at(a, x, y) + end_at(b, x, y)];
 }
 
-static int uprights_conflict(const struct plain_line *a, const struct plain_line *b)
+static enum shared uprights_share(const struct plain_line *a, const struct plain_line *b)
 {
     struct fraction touch;
     int64_t south = most(a->west.y, b->west.y);
     int64_t north = least(a->east.y, b->east.y);
 
     if (a->west.x != b->west.x || south > north)
-        return 0;
+        return NO_POINT;
     touch.above = south;
     touch.below = 1;
-    return south < north || !end_of_both(a, b, a->west.x, touch);
+    return south < north ? MORE_POINTS : one_point(a, b, a->west.x, touch);
 }
 
-static int conflict_with_upright(const struct plain_line *pole, const struct plain_line *l)
+static enum shared upright_shares(const struct plain_line *pole, const struct plain_line *l)
 {
     struct fraction h;
     int64_t x = pole->west.x;
 
     if (x < l->west.x || x > l->east.x)
-        return 0;
+        return NO_POINT;
     h = height(l, x);
     if (compare_whole(h, pole->west.y) < 0 || compare_whole(h, pole->east.y) > 0)
-        return 0;
-    return !end_of_both(pole, l, x, h);
+        return NO_POINT;
+    return one_point(pole, l, x, h);
 }
 
-/* Over the x that both have, the one is above the other, or they change sides, or they meet at one border. */
-static int slopes_conflict(const struct plain_line *a, const struct plain_line *b)
+/* Over the x that both have, the one is above the other, or they change sides, or they meet at one border. Where
+ * they change sides is between the borders, so that no line ends there. */
+static enum shared slopes_share(const struct plain_line *a, const struct plain_line *b)
 {
     int64_t from = most(a->west.x, b->west.x);
     int64_t to = least(a->east.x, b->east.x);
     int first, last;
 
     if (from > to)
-        return 0;
+        return NO_POINT;
     first = compare(height(a, from), height(b, from));
     last = compare(height(a, to), height(b, to));
     if (first != 0 && last != 0)
-        return first != last;
+        return first != last ? INSIDE_BOTH : NO_POINT;
     if (first == 0 && last == 0 && from < to)
-        return 1;
+        return MORE_POINTS;
     from = first == 0 ? from : to;
-    return !end_of_both(a, b, from, height(a, from));
+    return one_point(a, b, from, height(a, from));
 }
 
-static int lines_conflict(const struct plain_line *a, const struct plain_line *b)
+static enum shared points_shared(const struct plain_line *a, const struct plain_line *b)
 {
     if (upright(a) && upright(b))
-        return uprights_conflict(a, b);
+        return uprights_share(a, b);
     if (upright(a))
-        return conflict_with_upright(a, b);
+        return upright_shares(a, b);
     if (upright(b))
-        return conflict_with_upright(b, a);
-    return slopes_conflict(a, b);
+        return upright_shares(b, a);
+    return slopes_share(a, b);
+}
+
+/* Conflict: a common point that is not an end of both. The kind says how; APART is no conflict. */
+
+enum kind { APART = 0, CROSSING = 1, TOUCHING = 2, OVERLAP = 3, SAME = 4 };
+
+static enum kind kind_of(const struct plain_line *a, const struct plain_line *b)
+{
+    switch (points_shared(a, b)) {
+    case INSIDE_BOTH:
+        return CROSSING;
+    case END_OF_ONE:
+        return TOUCHING;
+    case MORE_POINTS:
+        return same_place(a->west, b->west) && same_place(a->east, b->east) ? SAME : OVERLAP;
+    default:
+        return APART;
+    }
 }
 
 /* Blocks, with their sides and corners */
@@ -393,7 +416,7 @@ static int conflict_free(const struct plain *p)
 
     for (i = 0; i < p->count; i++)
         for (k = i + 1; k < p->count; k++)
-            if (lines_conflict(&p->list[i], &p->list[k]))
+            if (kind_of(&p->list[i], &p->list[k]) != APART)
                 return 0;
     return 1;
 }
@@ -482,15 +505,17 @@ uint64_t plain_start(struct plain *p)
 
 /* Insert */
 
-static int first_conflict(const struct plain *p, const struct plain_line *l, uint16_t *slot)
+/* The kind and slot of the first that conflicts, as refusal 5 tells them; 0, which is no kind, if none does. */
+static uint64_t first_conflict(const struct plain *p, const struct plain_line *l)
 {
     size_t i;
 
-    for (i = 0; i < p->count; i++)
-        if (lines_conflict(&p->list[i], l)) {
-            *slot = p->list[i].slot;
-            return 1;
-        }
+    for (i = 0; i < p->count; i++) {
+        enum kind kind = kind_of(&p->list[i], l);
+
+        if (kind != APART)
+            return (uint64_t)kind * 65536 + p->list[i].slot;
+    }
     return 0;
 }
 
@@ -535,8 +560,7 @@ uint64_t plain_insert(struct plain *p, uint16_t x1, uint16_t y1, uint16_t x2, ui
     const uint16_t line[6] = { x1, y1, x2, y2, left, right };
     struct plain_line fresh, longer[PLAIN_SLOTS];
     struct tree t;
-    uint16_t with = 0;
-    uint64_t handle;
+    uint64_t conflict, handle;
 
     if (!lengths_right(p))
         return answer(LENGTHS, 0);
@@ -547,8 +571,9 @@ uint64_t plain_insert(struct plain *p, uint16_t x1, uint16_t y1, uint16_t x2, ui
     if (x1 == x2 && y1 == y2)
         return answer(NO_LENGTH, 0);
     fresh = make_line(free_slot(p), x1, y1, x2, y2, left, right);
-    if (first_conflict(p, &fresh, &with))
-        return answer(CONFLICT, with);
+    conflict = first_conflict(p, &fresh);
+    if (conflict != 0)
+        return answer(CONFLICT, conflict);
     if (fresh.slot == slots(p))
         return answer(NO_SLOT, 0);
     list_with(p, &fresh, longer);

@@ -21,11 +21,22 @@ void replay_free(struct replay *replay) {
   free(replay->answers);
 }
 
+/* Which line is in the way, and how. A refusal changes nothing, so its ends are
+** still in the lent table. */
+static void print_conflict(const struct boundary_map *map, uint32_t detail, FILE *out) {
+  uint32_t slot = boundary_map_conflict_slot(detail);
+  fprintf(out, "refused %d, conflict: %s the line in slot %lu, (%u, %u)-(%u, %u)", BOUNDARY_MAP_CONFLICT,
+          boundary_map_kindstr(boundary_map_conflict_kind(detail)), (unsigned long)slot,
+          entry_of(map, slot, BOUNDARY_MAP_X1), entry_of(map, slot, BOUNDARY_MAP_Y1),
+          entry_of(map, slot, BOUNDARY_MAP_X2), entry_of(map, slot, BOUNDARY_MAP_Y2));
+}
+
 /* Prints what every answer has, and counts it. Answers whether it is done. */
 static int told(struct replay *replay, uint64_t answer, FILE *out) {
   uint32_t refusal = boundary_map_refusal(answer);
   replay->refused[refusal <= BOUNDARY_MAP_REFUSAL_MAX ? refusal : 0]++;
   if (refusal == BOUNDARY_MAP_DONE) fputs("done", out);
+  else if (refusal == BOUNDARY_MAP_CONFLICT) print_conflict(&replay->map, boundary_map_detail(answer), out);
   else fprintf(out, "refused %lu, %s", (unsigned long)refusal, boundary_map_errstr(refusal));
   return refusal == BOUNDARY_MAP_DONE;
 }
@@ -54,8 +65,6 @@ static void insert(struct replay *replay, const uint32_t *n, FILE *out) {
   if (told(replay, answer, out)) {
     fputs(", ", out);
     print_handle(boundary_map_detail(answer), out);
-  } else if (boundary_map_refusal(answer) == BOUNDARY_MAP_CONFLICT) {
-    fprintf(out, " (slot %lu)", (unsigned long)boundary_map_conflict_slot(boundary_map_detail(answer)));
   }
   fputc('\n', out);
 }

@@ -125,20 +125,84 @@ static int is_label(uint32_t found)
 
 /* Insert */
 
-static uint64_t names_highest_conflict(struct tables t, const uint16_t *l)
+static uint32_t conflict_slot(uint64_t result)
 {
-    uint64_t result = insert(t, l), again = result;
+    return (uint32_t)result % 65536;
+}
+
+static uint32_t conflict_kind(uint64_t result)
+{
+    return (uint32_t)result / 65536;
+}
+
+static uint64_t conflict(uint32_t kind, uint32_t slot)
+{
+    return refuse(5) + kind * 65536 + slot;
+}
+
+/* What refusal 5 tells of the last line in the way, from what it told of the first. */
+static uint64_t highest_conflict(struct tables t, const uint16_t *l, uint64_t result)
+{
+    uint64_t again = result;
     struct tables c;
 
-    if (refusal(result) != 5)
-        return result;
     for (c = copy_of(t); refusal(again) == 5; again = insert(c, l)) {
-        uint32_t slot = (uint32_t)(again & 0xffffffff);
+        uint32_t slot = conflict_slot(again);
 
         result = again;
         delete_handle(c, slot * 65536 + slot_at(c, slot)[GENERATION]);
     }
     return result;
+}
+
+static uint64_t names_highest_conflict(struct tables t, const uint16_t *l)
+{
+    uint64_t result = insert(t, l);
+
+    return refusal(result) == 5 ? highest_conflict(t, l, result) : result;
+}
+
+static uint64_t kind_of_highest_conflict(struct tables t, const uint16_t *l)
+{
+    uint64_t result = insert(t, l);
+
+    if (refusal(result) != 5)
+        return result;
+    return conflict(conflict_kind(highest_conflict(t, l, result)), conflict_slot(result));
+}
+
+/* Each kind, from 0 for none to 4, told as another. */
+static uint64_t insert_with_kinds(struct tables t, const uint16_t *l, const uint32_t told_as[5])
+{
+    uint64_t result = insert(t, l);
+
+    if (refusal(result) != 5)
+        return result;
+    return conflict(told_as[conflict_kind(result)], conflict_slot(result));
+}
+
+static uint64_t overlap_and_same_swapped(struct tables t, const uint16_t *l)
+{
+    return insert_with_kinds(t, l, (const uint32_t[]){ 0, 1, 2, 4, 3 });
+}
+
+static uint64_t touching_is_crossing(struct tables t, const uint16_t *l)
+{
+    return insert_with_kinds(t, l, (const uint32_t[]){ 0, 1, 1, 3, 4 });
+}
+
+static uint64_t kind_left_out(struct tables t, const uint16_t *l)
+{
+    return insert_with_kinds(t, l, (const uint32_t[]){ 0, 0, 0, 0, 0 });
+}
+
+static uint64_t reversed_is_overlap(struct tables t, const uint16_t *l)
+{
+    uint64_t result = insert(t, l);
+
+    if (refusal(result) != 5 || conflict_kind(result) != 4 || memcmp(slot_at(t, conflict_slot(result)) + X1, l, 8) == 0)
+        return result;
+    return conflict(3, conflict_slot(result));
 }
 
 static uint64_t changes_last_leaf(struct tables t, const uint16_t *l)
@@ -345,7 +409,7 @@ static uint64_t touching_is_no_conflict(struct tables t, const uint16_t *l)
 
     if (refusal(result) != 5 || free_slot(t) == slots(t))
         return result;
-    s = slot_at(t, result & 0xffffffff);
+    s = slot_at(t, conflict_slot(result));
     if (s[Y1] != s[Y2] || l[1] != s[Y1] || l[3] == s[Y1])
         return result;
     return free_slot(t) * 65536 + slot_at(t, free_slot(t))[GENERATION] + 1;
@@ -684,6 +748,11 @@ struct planted {
 static const struct planted plants[] = {
     { "nothing", ON_VERSION(__real_boundary_map_version) },
     { "refusal 5 names the highest slot", ON_INSERT(names_highest_conflict) },
+    { "refusal 5 tells the highest slot's kind with the lowest slot", ON_INSERT(kind_of_highest_conflict) },
+    { "overlap and same changed over", ON_INSERT(overlap_and_same_swapped) },
+    { "touching told as crossing", ON_INSERT(touching_is_crossing) },
+    { "the kind left out", ON_INSERT(kind_left_out) },
+    { "the same line reversed told as overlap", ON_INSERT(reversed_is_overlap) },
     { "the last leaf's count changed after insert", ON_INSERT(changes_last_leaf) },
     { "two slots of a leaf listed falling", ON_INSERT(lists_falling) },
     { "a handle given again", ON_INSERT(gives_handle_again) },

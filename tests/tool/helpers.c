@@ -26,7 +26,25 @@ static void answers_of_calls(void) {
   WANT(boundary_map_refusal(UINT64_C(34359738368)) == BOUNDARY_MAP_UNKNOWN_HANDLE);
   WANT(boundary_map_detail(UINT64_MAX) == UINT32_MAX);
   WANT(boundary_map_conflict_slot(0) == 0 && boundary_map_conflict_slot(1023) == 1023);
-  WANT(boundary_map_conflict_slot(4 * UINT32_C(65536) + 1023) == 1023); /* a kind above it, as a later version tells */
+  WANT(boundary_map_conflict_slot(4 * UINT32_C(65536) + 1023) == 1023);
+  WANT(boundary_map_conflict_kind(4 * UINT32_C(65536) + 1023) == BOUNDARY_MAP_SAME);
+  WANT(boundary_map_conflict_kind(65536) == BOUNDARY_MAP_CROSSING);
+  WANT(boundary_map_conflict_kind(131071) == BOUNDARY_MAP_CROSSING && boundary_map_conflict_kind(65535) == 0);
+}
+
+/* Four kinds, each with words of its own; any other number has words too. */
+static void kinds(void) {
+  const char *other = boundary_map_kindstr(0);
+  WANT(BOUNDARY_MAP_CROSSING == 1 && BOUNDARY_MAP_TOUCHING == 2 && BOUNDARY_MAP_OVERLAP == 3 && BOUNDARY_MAP_SAME == 4);
+  WANT(BOUNDARY_MAP_KIND_MAX == BOUNDARY_MAP_SAME);
+  WANT(strcmp(other, "conflicts with") == 0);
+  for (uint32_t i = 1; i <= BOUNDARY_MAP_KIND_MAX; i++) {
+    const char *text = boundary_map_kindstr(i);
+    WANT(text != NULL && text[0] != '\0' && strcmp(text, other) != 0);
+    for (uint32_t k = 1; k < i; k++) WANT(strcmp(text, boundary_map_kindstr(k)) != 0);
+  }
+  WANT(strcmp(boundary_map_kindstr(BOUNDARY_MAP_KIND_MAX + 1), other) == 0);
+  WANT(boundary_map_kindstr(UINT32_MAX) != NULL && strcmp(boundary_map_kindstr(UINT32_MAX), other) == 0);
 }
 
 static void words(void) {
@@ -90,6 +108,7 @@ static void version(void) {
 
 int main(void) {
   answers_of_calls();
+  kinds();
   words();
   handles();
   answers_of_locate();
