@@ -17,6 +17,13 @@
 
 PREFIX = /usr/local
 LIB = target/staticlib/libhost.a
+
+# The library is for x86-64: on another processor programs are compiled for that too, and run under an emulator.
+ifneq ($(shell uname -m),x86_64)
+CC := $(if $(filter default,$(origin CC)),$(CURDIR)/tests/x86-64/cc,$(CC))
+CXX := $(if $(filter default,$(origin CXX)),$(CURDIR)/tests/x86-64/c++,$(CXX))
+endif
+
 CFLAGS = -O2 -g
 WARNINGS = -Wall -Wextra -Wpedantic -Wshadow -Wconversion
 BUILD_C = $(CC) -std=c99 $(WARNINGS) $(CFLAGS) -Iinclude

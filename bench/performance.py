@@ -248,6 +248,8 @@ Against a plain search of all lines for each point, with no check of the map at 
 
 ## Instructions
 
+Refused is an insert of the map's last line once more: every other line is tested before it, and then how it conflicts.
+
 {instructions}
 
 ## Pairs in a leaf

@@ -29,7 +29,7 @@ static void ask(void) {
   say("locate", boundary_map_locate(MAP, points, 4, answers, 2));
   if (boundary_map_is_label(answers[0])) printf("the first point is in region %u\n", boundary_map_answer_label(answers[0]));
   if (boundary_map_is_on_line(answers[1]))
-    printf("the second is on the line in slot %lu\n", (unsigned long)boundary_map_answer_slot(answers[1]));
+    printf("the second is on the line of slot %lu\n", (unsigned long)boundary_map_answer_slot(answers[1]));
 }
 
 int main(void) {
@@ -41,7 +41,7 @@ int main(void) {
   ask();
 
   uint32_t conflict = say("insert another", boundary_map_insert(MAP, 40, 0, 40, 16383, 7, 9));
-  printf("it %s the line in slot %lu\n", boundary_map_kindstr(boundary_map_conflict_kind(conflict)),
+  printf("it %s the line of slot %lu\n", boundary_map_kindstr(boundary_map_conflict_kind(conflict)),
          (unsigned long)boundary_map_conflict_slot(conflict));
 
   say("delete", boundary_map_delete(MAP, fence));

@@ -25,7 +25,7 @@ void replay_free(struct replay *replay) {
 ** still in the lent table. */
 static void print_conflict(const struct boundary_map *map, uint32_t detail, FILE *out) {
   uint32_t slot = boundary_map_conflict_slot(detail);
-  fprintf(out, "refused %d, conflict: %s the line in slot %lu, (%u, %u)-(%u, %u)", BOUNDARY_MAP_CONFLICT,
+  fprintf(out, "refused %d, conflict: %s the line of slot %lu, (%u, %u)-(%u, %u)", BOUNDARY_MAP_CONFLICT,
           boundary_map_kindstr(boundary_map_conflict_kind(detail)), (unsigned long)slot,
           entry_of(map, slot, BOUNDARY_MAP_X1), entry_of(map, slot, BOUNDARY_MAP_Y1),
           entry_of(map, slot, BOUNDARY_MAP_X2), entry_of(map, slot, BOUNDARY_MAP_Y2));
@@ -81,7 +81,7 @@ static void print_answer(uint32_t answer, FILE *out) {
   fprintf(out, "%lu, ", (unsigned long)answer);
   if (boundary_map_is_off_grid(answer)) fputs("off the grid", out);
   else if (boundary_map_is_on_line(answer))
-    fprintf(out, "on the line in slot %lu", (unsigned long)boundary_map_answer_slot(answer));
+    fprintf(out, "on the line of slot %lu", (unsigned long)boundary_map_answer_slot(answer));
   else if (answer == 0) fputs("outside", out);
   else fprintf(out, "in region %lu", (unsigned long)answer);
 }
