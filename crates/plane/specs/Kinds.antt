@@ -21,15 +21,15 @@ use Rattle.plane.specs.MoreShared.{two-a, two-b, two-c, two-d}
 
 -- ---- The kind that is told holds
 
-pub point-at : {p q : Point} → p ≡ q → AtPoint (spotOf p) q
+point-at : {p q : Point} → p ≡ q → AtPoint (spotOf p) q
 unfolding spotOf
 point-at e = let f = ap (λ (r : Point). r .x .0) e in let g = ap (λ (r : Point). r .y .0) e in record { sameX = omega (arith, f); sameY = omega (arith, g) }
 
 -- a spot at a point, on a line: the point is in its straight line
-pub at-even : (s : Spot) (p : Point) (l : Line) → AtPoint s p → OnLine s l → Even l p
+at-even : (s : Spot) (p : Point) (l : Line) → AtPoint s p → OnLine s l → Even l p
 at-even s p l h o = cancel (s .Z) (s .some) (omega (arith, straight-of o, l .b .x .0 · (h .sameY), l .a .y .0 · (h .sameX), l .a .x .0 · (h .sameY), l .b .y .0 · (h .sameX)))
 
-pub no-parts : (l m : Line) → Parts l m → Even l (m .a) ⊎ Even l (m .b) → ⊥
+no-parts : (l m : Line) → Parts l m → Even l (m .a) ⊎ Even l (m .b) → ⊥
 no-parts l m (inl p) (inl e) = omega (arith, p .0, e)
 no-parts l m (inl p) (inr e) = omega (arith, p .1, e)
 no-parts l m (inr p) (inl e) = omega (arith, p .0, e)
@@ -39,7 +39,7 @@ in-line-says : (l m : Line) → (inLineOf l m ≡ true) ↔ (Even l (m .a) × Ev
 unfolding inLineOf
 in-line-says l m = both (straight-says l (m .a)) (straight-says l (m .b))
 
-pub same-ends : (l m : Line) → Proper l → isEnd (l .a) m && isEnd (l .b) m ≡ true → SameEnds l m
+same-ends : (l m : Line) → Proper l → isEnd (l .a) m && isEnd (l .b) m ≡ true → SameEnds l m
 same-ends l m pl e = let t = both→ (isEnd (l .a) m) (isEnd (l .b) m) e in go (end-cases (l .a) m (t .0)) (end-cases (l .b) m (t .1))
   where
     apart : {p : Point} → l .a ≡ p → l .b ≡ p → ⊥
@@ -60,7 +60,7 @@ module _ (l m : Line) (pl : Proper l) (pm : Proper m) (clash : conflict l m ≡ 
     only : {s : Spot} → OnLine s l → OnLine s m → OnlyShared s l m
     only {s} ol om = record { shared = record { onFirst = ol; onSecond = om }; only = λ t h. one-spot l m pm h (record { onFirst = ol; onSecond = om }) not-even }
 
-  pub crossing-told : inLineOf l m ≡ false → parts l m && parts m l ≡ true → KindIs l m Crossing
+  crossing-told : inLineOf l m ≡ false → parts l m && parts m l ≡ true → KindIs l m Crossing
   crossing-told n e =
       let t = both→ (parts l m) (parts m l) e in
       let p = parts-says l m .0 (t .0) in
@@ -72,7 +72,7 @@ module _ (l m : Line) (pl : Proper l) (pm : Proper m) (clash : conflict l m ≡ 
         λ h. elim h [ inl i ↦ no-parts l m p (inl (at-even s (m .a) l i ol)) | inr i ↦ no-parts l m p (inr (at-even s (m .b) l i ol)) ],
       )
 
-  pub overlap-told : isEnd (l .a) m && isEnd (l .b) m ≡ false → inLineOf l m ≡ true → KindIs l m Overlap
+  overlap-told : isEnd (l .a) m && isEnd (l .b) m ≡ false → inLineOf l m ≡ true → KindIs l m Overlap
   overlap-told n e = let (ec, ed) = in-line-says l m .0 e in (two ec ed (conflict-says l m .0 clash), not-same)
     where
       not-same : SameEnds l m → ⊥
@@ -87,7 +87,7 @@ module _ (l m : Line) (pl : Proper l) (pm : Proper m) (clash : conflict l m ≡ 
       two ec ed (inl (inr p)) = absurd (no-parts l m (p .0) (inl ec))
       two ec ed (inr (h, k)) = absurd (no-path (sym n ∙ (both← (end-says (l .a) m .1 h) (end-says (l .b) m .1 k))))
 
-  pub touching-told : isEnd (l .a) m && isEnd (l .b) m ≡ false → inLineOf l m ≡ false → parts l m && parts m l ≡ false → KindIs l m Touching
+  touching-told : isEnd (l .a) m && isEnd (l .b) m ≡ false → inLineOf l m ≡ false → parts l m && parts m l ≡ false → KindIs l m Touching
   touching-told n i e = go (conflict-says l m .0 clash)
     where
       go : Clash l m → KindIs l m Touching
@@ -99,7 +99,7 @@ module _ (l m : Line) (pl : Proper l) (pm : Proper m) (clash : conflict l m ≡ 
       go (inr (h, k)) = absurd (no-path (sym n ∙ (both← (end-says (l .a) m .1 h) (end-says (l .b) m .1 k))))
 
   -- the kind told is the kind
-  pub kind-told : KindIs l m (kindOf l m)
+  kind-told : KindIs l m (kindOf l m)
   unfolding kindOf
   kind-told = go (isEnd (l .a) m && isEnd (l .b) m) (inLineOf l m) (parts l m && parts m l) refl refl refl
     where
@@ -117,7 +117,7 @@ at-same {s} {t} {p} e h = record {
   sameY = cancel (s .Z) (s .some) (omega (arith, e .sameY, t .Z · (h .sameY)));
 }
 
-pub end-same : {s t : Spot} (l : Line) → SameSpot s t → AtEnd s l → AtEnd t l
+end-same : {s t : Spot} (l : Line) → SameSpot s t → AtEnd s l → AtEnd t l
 end-same l e (inl h) = inl (at-same e h)
 end-same l e (inr h) = inr (at-same e h)
 
@@ -130,7 +130,7 @@ same-by {r} {s} {t} e f = record {
   sameY = cancel (t .Z) (t .some) (omega (arith, s .Z · (e .sameY), r .Z · (f .sameY)));
 }
 
-pub not-two : {s : Spot} {l m : Line} → OnlyShared s l m → TwoShared l m → ⊥
+not-two : {s : Spot} {l m : Line} → OnlyShared s l m → TwoShared l m → ⊥
 not-two o t = t .differ (same-by (o .only (t .one) (t .oneShared)) (o .only (t .other) (t .otherShared)))
 
 -- lines with equal ends have them at the same spots
