@@ -155,7 +155,7 @@ module _ (rule : Rule) (t : Tables) (x y : ℕ) where
 
 module _ (rule : Rule) (t : Tables) (g : Given) where
   abbrev Inserted : Reply → Type 0
-  Inserted = Came (λ (r : Reply). r .answer) (λ (r : Reply). r .after ≡ t) (λ (r : Reply). Some (λ s. Lowest (Vacant (t .lines)) s × (r .after ≡ rebuilt rule t (placed (t .lines) s g)))) ((λ d. Lengths) ∷ (λ d. Damaged) ∷ (λ d. OffGrid) ∷ (λ d. NoLength) ∷ Conflict ∷ (λ d. NoSlot) ∷ (λ d. NoRoom) ∷ []) (insertTests rule t g) (Handle rule t g) (Named rule t g)
+  Inserted = Came (λ (r : Reply). r .answer) (λ (r : Reply). r .after ≡ t) (λ (r : Reply). Some (λ s. Lowest (Vacant (t .lines)) s × (r .after ≡ rebuilt rule t (placed (t .lines) s g)))) ((λ d. Lengths) ∷ (λ d. Damaged) ∷ (λ d. OffGrid) ∷ (λ d. NoLength) ∷ Conflict ∷ (λ d. NoSlot) ∷ (λ d. NoRoom) ∷ []) (insertTests rule t g) (Handle (t .lines)) (Named (t .lines) g)
 
   given-proper : ¬ EndsEqual g → Proper (givenLine g)
   unfolding givenLine noLength
@@ -179,7 +179,7 @@ module _ (rule : Rule) (t : Tables) (g : Given) where
         proper : Proper (lineAt (t .lines) s)
         proper = lines-proper s (w .lives)
 
-    named : (s : ℕ) → Lowest (InTheWay (t .lines) g) s → Named rule t g (conflictDetail (t .lines) s g)
+    named : (s : ℕ) → Lowest (InTheWay (t .lines) g) s → Named (t .lines) g (conflictDetail (t .lines) s g)
     unfolding conflictDetail
     named s low = (s, kindOf (lineAt (t .lines) s) (givenLine g), low, way-kind s (low .holds) _ .0 refl, refl)
 
@@ -198,11 +198,11 @@ module _ (rule : Rule) (t : Tables) (g : Given) where
   roomy : (s : ℕ) → Lowest (Vacant (t .lines)) s → ¬ NeedsMore rule t (liveLines (placed (t .lines) s g)) → ¬ TooLarge rule t g
   roomy s low n l = n (subst (λ (u : ℕ). NeedsMore rule t (liveLines (placed (t .lines) u g))) (lowest-only _ _ (l .takes) low) (l .more))
 
-  handle-only : (h k : ℕ) → Handle rule t g h → Handle rule t g k → h ≡ k
+  handle-only : (h k : ℕ) → Handle (t .lines) h → Handle (t .lines) k → h ≡ k
   handle-only h k a b = let e : a .0 ≡ b .0 = lowest-only _ _ (a .1) (b .1) in cc (a .2, b .2)
 
   -- no line conflicts in two ways
-  named-only : (d e : ℕ) → Named rule t g d → Named rule t g e → d ≡ e
+  named-only : (d e : ℕ) → Named (t .lines) g d → Named (t .lines) g e → d ≡ e
   named-only d e a b =
       let f : a .0 ≡ b .0 = lowest-only _ _ (a .2) (b .2) in
       let k : a .1 ≡ b .1 = one-kind (lineAt (t .lines) (b .0)) (givenLine g) (a .1) (b .1) (subst (λ (s : ℕ). KindIs (lineAt (t .lines) s) (givenLine g) (a .1)) f (a .3)) (b .3) in
@@ -227,7 +227,7 @@ module _ (rule : Rule) (t : Tables) (g : Given) where
   put : (h s : ℕ) → insertOf rule t g .answer ≡ Done h → Lowest (Vacant (t .lines)) s → PutIn rule t g s (insertOf rule t g .after)
   put h s e low =
       let m = made came-insert h e in
-      let n = detailed came-insert Done 0 (Handle rule t g) (λ d. refl) (λ d. refl) (λ d a. a .0) handle-only (λ d a. tt) h .0 e .1 in
+      let n = detailed came-insert Done 0 (Handle (t .lines)) (λ d. refl) (λ d. refl) (λ d a. a .0) handle-only (λ d a. tt) h .0 e .1 in
       subst (PutIn rule t g s) (sym (m .1 .1 ∙ ap (λ (u : ℕ). rebuilt rule t (placed (t .lines) u g)) (lowest-only _ _ (m .1 .0) low)))
       (put-in rule t g s (omega (arith, low .holds .there)) (λ q. n .1 .1 .1 .1 .1 .1 .0 (record { slot = s; takes = low; more = q })))
 
@@ -238,10 +238,10 @@ module _ (rule : Rule) (t : Tables) (g : Given) where
         damaged = plain came-insert Damaged (λ d. refl);
         offGrid = plain came-insert OffGrid (λ d. refl);
         noLength = plain came-insert NoLength (λ d. refl);
-        conflict = detailed came-insert Conflict 5 (Named rule t g) (λ d. refl) (λ d. refl) (λ d a. a .0) named-only (λ d a. (a .0, a .2 .holds));
+        conflict = detailed came-insert Conflict 5 (Named (t .lines) g) (λ d. refl) (λ d. refl) (λ d a. a .0) named-only (λ d a. (a .0, a .2 .holds));
         noSlot = plain came-insert NoSlot (λ d. refl);
         noRoom = plain came-insert NoRoom (λ d. refl);
-        done = detailed came-insert Done 0 (Handle rule t g) (λ d. refl) (λ d. refl) (λ d a. a .0) handle-only (λ d a. tt);
+        done = detailed came-insert Done 0 (Handle (t .lines)) (λ d. refl) (λ d. refl) (λ d a. a .0) handle-only (λ d a. tt);
         put = put;
         kept = kept came-insert;
       }

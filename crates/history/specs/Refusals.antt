@@ -64,6 +64,10 @@ pub record InTheWay (lines : List ℕ) (g : Given) (s : ℕ) : Type 0 where
   pub lives : Live lines s
   pub conflicts : Conflicts (lineAt lines s) (givenLine g)
 
+-- kind × 65,536 + slot: the lowest slot in the way, and how its line conflicts with the given one
+abbrev pub Named : List ℕ → Given → ℕ → Type 0
+Named lines g d = (s : ℕ) × (k : Kind) × Lowest (InTheWay lines g) s × KindIs (lineAt lines s) (givenLine g) k × (d ≡ kindNumber k * 65536 + s)
+
 -- ---- 6 No slot
 
 -- no generation is left; an entry has 16 bits, so it is 65,535 (`no-slot-16`)
@@ -78,6 +82,10 @@ pub record Vacant (lines : List ℕ) (s : ℕ) : Type 0 where
   pub there : s < length lines / 8
   pub dead : ¬ Live lines s
   pub young : generation lines s < 65535
+
+-- slot × 65,536 + generation, raised by 1, of the lowest such slot
+abbrev pub Handle : List ℕ → ℕ → Type 0
+Handle lines h = (s : ℕ) × Lowest (Vacant lines) s × (h ≡ s * 65536 + (generation lines s + 1))
 
 -- ---- 7 No room
 
@@ -157,23 +165,15 @@ module _ (rule : Rule) (t : Tables) (g : Given) where
   abbrev pub inserted : Answer
   inserted = insertOf rule t g .answer
 
-  -- slot × 65,536 + generation, raised by 1, of the lowest slot that is not live and has generation below 65,535
-  abbrev pub Handle : ℕ → Type 0
-  Handle h = (s : ℕ) × Lowest (Vacant (t .lines)) s × (h ≡ s * 65536 + (generation (t .lines) s + 1))
-
-  -- kind × 65,536 + slot: the lowest slot in the way, and how its line conflicts with the given one
-  abbrev pub Named : ℕ → Type 0
-  Named d = (s : ℕ) × (k : Kind) × Lowest (InTheWay (t .lines) g) s × KindIs (lineAt (t .lines) s) (givenLine g) k × (d ≡ kindNumber k * 65536 + s)
-
   pub record InsertExact : Type 0 where
     pub lengths : (inserted ≡ Lengths) ↔ WrongLengths t
     pub damaged : (inserted ≡ Damaged) ↔ Unsound rule t × None 1 insertTests
     pub offGrid : (inserted ≡ OffGrid) ↔ AboveGrid g × None 2 insertTests
     pub noLength : (inserted ≡ NoLength) ↔ EndsEqual g × None 3 insertTests
-    pub conflict : (d : ℕ) → (inserted ≡ Conflict d) ↔ Named d × None 4 insertTests
+    pub conflict : (d : ℕ) → (inserted ≡ Conflict d) ↔ Named (t .lines) g d × None 4 insertTests
     pub noSlot : (inserted ≡ NoSlot) ↔ AllTaken (t .lines) × None 5 insertTests
     pub noRoom : (inserted ≡ NoRoom) ↔ TooLarge rule t g × None 6 insertTests
-    pub done : (h : ℕ) → (inserted ≡ Done h) ↔ Handle h × None 7 insertTests
+    pub done : (h : ℕ) → (inserted ≡ Done h) ↔ Handle (t .lines) h × None 7 insertTests
     pub put : (h s : ℕ) → inserted ≡ Done h → Lowest (Vacant (t .lines)) s → PutIn rule t g s (insertOf rule t g .after)
     pub kept : 0 < refusalOf inserted → insertOf rule t g .after ≡ t
 

@@ -8,8 +8,7 @@ use geometry::line_of;
 use geometry::same_point;
 use geometry::straight;
 use geometry::turn;
-use tables::line_of_row;
-use tables::row_at;
+use tables::line_at;
 ghost use mathlib.Core.Path.{_≡_};
 ghost use mathlib.Core.Bool.{true, _&&_};
 ghost use Prim.Native.Nat.{_≤_};
@@ -60,7 +59,6 @@ pub fn conflict_detail(lines: &[u16], s: usize, g: Given) -> u32
     requires { ⌜ OnMap (now lines) s × (s ≤ 1023) × (allOnGrid g ≡ true) ⌝ }
     ensures { λ r. ⌜ r ≡ conflictDetail (now (lines .entry)) s g ⌝ }
 {
-    let row = row_at(lines, s);
-    let k = kind_of(line_of_row(row), line_of(g.x1, g.y1, g.x2, g.y2));
+    let k = kind_of(line_at(lines, s as u16), line_of(g.x1, g.y1, g.x2, g.y2));
     kind_number(k) * 65536 + (s as u32)
 }

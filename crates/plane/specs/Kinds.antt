@@ -14,7 +14,7 @@ use Rattle.plane.specs.Compare.{cancel, _·_}
 use Rattle.plane.specs.Says.{both}
 use Rattle.plane.specs.Segments.{straight-of, Proper, differ}
 use Rattle.plane.specs.Overlap.{Even}
-use Rattle.plane.specs.Ends.{straight-says, end-says, end-cases}
+use Rattle.plane.specs.Ends.{straight-says, same-says, same-refl, end-says, end-cases}
 use Rattle.plane.specs.Crossing.{Clash, Parts, parts-says, conflict-says, conflict-iff, at?, at-a, at-b, crosses, ends-agree}
 use Rattle.plane.specs.OneShared.{one-spot}
 use Rattle.plane.specs.MoreShared.{two-a, two-b, two-c, two-d}
@@ -22,8 +22,7 @@ use Rattle.plane.specs.MoreShared.{two-a, two-b, two-c, two-d}
 -- ---- The kind that is told holds
 
 point-at : {p q : Point} → p ≡ q → AtPoint (spotOf p) q
-unfolding spotOf
-point-at e = let f = ap (λ (r : Point). r .x .0) e in let g = ap (λ (r : Point). r .y .0) e in record { sameX = omega (arith, f); sameY = omega (arith, g) }
+point-at {p} e = subst (AtPoint (spotOf p)) e (same-says p p .0 (same-refl p))
 
 -- a spot at a point, on a line: the point is in its straight line
 at-even : (s : Spot) (p : Point) (l : Line) → AtPoint s p → OnLine s l → Even l p

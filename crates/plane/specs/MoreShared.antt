@@ -5,7 +5,7 @@ use Prim.Native.Nat.{ℕ, _+_, _*_, _≤_, _<_, min, max}
 use native.Mathlib.Omega.{arith}
 use native.Mathlib.Nat.{mul-le-mul-right}
 use native.Mathlib.Decide.{ℕ-discrete}
-use Rattle.algebra.specs.Order.{mul-lt}
+use Rattle.algebra.specs.Order.{cancel-le}
 use Rattle.algebra.specs.Signs.{zero-of-equal}
 use Rattle.definitions.specs.declared.Point.{Point}
 use Rattle.definitions.specs.Shape.{Line}
@@ -18,16 +18,12 @@ use Rattle.plane.specs.Crossing.{at-a}
 
 -- (d - c) (p - q) is 0, and c is not d
 factor : (c d p q : ℕ) → (c ≡ d → ⊥) → d * p + c * q ≡ d * q + c * p → p ≡ q
-factor c d p q n e = go (order p q) (order q p) (order c d) (order d c)
+factor c d p q n e = go (order c d) (order d c)
   where
-    go : (p ≤ q) ⊎ (q < p) → (q ≤ p) ⊎ (p < q) → (c ≤ d) ⊎ (d < c) → (d ≤ c) ⊎ (c < d) → p ≡ q
-    go (inl i) (inl j) h k = omega (arith, i, j)
-    go (inl i) (inr j) (inl h) (inl k) = absurd (n (omega (arith, h, k)))
-    go (inl i) (inr j) (inl h) (inr k) = absurd (omega (arith, e, mul-lt d c q p k j))
-    go (inl i) (inr j) (inr h) k = absurd (omega (arith, e, mul-lt c d q p h j))
-    go (inr i) j (inl h) (inl k) = absurd (n (omega (arith, h, k)))
-    go (inr i) j (inl h) (inr k) = absurd (omega (arith, e, mul-lt d c p q k i))
-    go (inr i) j (inr h) k = absurd (omega (arith, e, mul-lt c d p q h i))
+    go : (c ≤ d) ⊎ (d < c) → (d ≤ c) ⊎ (c < d) → p ≡ q
+    go (inl h) (inl k) = absurd (n (omega (arith, h, k)))
+    go (inl h) (inr k) = let i = cancel-le d c q p k (omega (arith, e)) in let j = cancel-le d c p q k (omega (arith, e)) in omega (arith, i, j)
+    go (inr h) k = let i = cancel-le c d q p h (omega (arith, e)) in let j = cancel-le c d p q h (omega (arith, e)) in omega (arith, i, j)
 
 -- one coordinate of a point within c, d, and of another in its straight line
 data Along (c d a b : ℕ) : Type 0 where
@@ -62,16 +58,13 @@ along c d a b c′ d′ a′ b′ lo hi n na nb ea eb = go (ℕ-discrete c d)
 
 -- a short way from a to b stays in the range
 in-range : (c d a b S : ℕ) → a ≤ S → b ≤ S → Along c d a b → (min c d * (S + 1) ≤ a * S + b * 1) × (a * S + b * 1 ≤ max c d * (S + 1))
-in-range c d a b S ha hb (level f i j) = (
-  omega (arith, S · i, j, mul-le-mul-right (S + 1) (le-min c d f)),
-  omega (arith, S · i, j, mul-le-mul-right (S + 1) (le-max c d f)),
-)
+in-range c d a b S ha hb (level f i j) = (omega (arith, S · i, j, mul-le-mul-right (S + 1) low), omega (arith, S · i, j, mul-le-mul-right (S + 1) high))
   where
-    le-min : (c d : ℕ) → c ≡ d → min c d ≤ c
-    le-min c d f = omega (arith, f)
+    low : min c d ≤ c
+    low = omega arith
 
-    le-max : (c d : ℕ) → c ≡ d → c ≤ max c d
-    le-max c d f = omega (arith, f)
+    high : c ≤ max c d
+    high = omega arith
 in-range c d a b S ha hb (strictly lo hi) = (low (min c d) lo, high (max c d) hi)
   where
     low : (m : ℕ) → m < a → m * (S + 1) ≤ a * S + b * 1

@@ -1,17 +1,18 @@
+use native.Mathlib.Omega.{arith}
 use borrow.Author.Needs.{needs}
 use Rattle.tables.specs.Sound.{given-on-grid}
 use Rattle.kinds.specs.Detail.{detail-is}
 use Rattle.kinds.proofs.conflict_detail.Statement.{statement}
 use Rattle.kinds.proofs.conflict_detail.Tie as tie
 
-row-at-requires : tie.Need-row-at-requires
-row-at-requires c κs = c .before .pre .0 .there
+cast-line-at : tie.Need-cast-line-at
+cast-line-at c = record { fits = omega (arith, c .before .pre .1) }
 
-line-of-row-requires : tie.Need-line-of-row-requires
-line-of-row-requires c κs = let m = c .before .before .pre .0 in rw (c .row-at .ensures) (m .gridX1, m .gridY1, m .gridX2, m .gridY2)
+line-at-requires : tie.Need-line-at-requires
+line-at-requires c κs = c .before .pre .0
 
 line-of-requires : tie.Need-line-of-requires
-line-of-requires c κs = given-on-grid _ (c .before .before .before .pre .2)
+line-of-requires c κs = given-on-grid _ (c .before .before .pre .2)
 
 kind-of-requires : tie.Need-kind-of-requires
 kind-of-requires c κs = search needs
@@ -29,15 +30,15 @@ add-result : tie.Need-add-result
 add-result c = search needs
 
 returns : tie.Need-returns
-returns c = let k = c .before in let m = k .before in let l = m .before in let r = l .before in let a = r .before .before .args in
-    detail-is (a .lines .now) (a .s) (a .g) (r .row-at .ensures) (l .line-of-row .ensures) (m .line-of .ensures) (k .kind-of .ensures) (c .kind-number .ensures .0)
+returns c = let k = c .before in let m = k .before in let l = m .before in let a = l .before .before .args in
+    detail-is (a .lines .now) (a .s) (a .g) (l .line-at .ensures) (m .line-of .ensures) (k .kind-of .ensures) (c .kind-number .ensures .0)
 
 pub conflict-detail-spec : {M : Type 1} → statement M
 conflict-detail-spec =
     tie.close
     (tie.spec
-    row-at-requires
-    line-of-row-requires
+    cast-line-at
+    line-at-requires
     line-of-requires
     kind-of-requires
     kind-number-requires
