@@ -6,7 +6,7 @@ use Prim.Native.Nat.{ℕ, _+_, _*_}
 use lib.ListN.{replicate}
 use Rattle.algebra.specs.Words.{those, every, upFrom, sameList, padded}
 use Rattle.definitions.specs.declared.Answer.the-variants.{Done}
-use Rattle.definitions.specs.Shape.{turn, leftOf, rightOf, corners, meets, inside, samePoint, isEnd, on, within, parts, conflict, inLineOf, kindOf}
+use Rattle.definitions.specs.Shape.{turn, leftOf, rightOf, corners, meetsArea, meets, inside, samePoint, isEnd, on, within, parts, conflict, inLineOf, kindOf}
 use Rattle.definitions.specs.Tree.{baseRule, treeBy, endsOf, simpleWith, simple, listed, tree, nodesOf, listingsOf}
 use Rattle.definitions.specs.Tables.{Tables, lengthsFit, slotsOf, isLive, lineAt, liveSlots, liveLines, liveSound, emptySound, slotSound, noneConflict, nodeTable, listingTable, sound}
 use Rattle.definitions.specs.Calls.{reply, rebuilt, withSlot, cleared, startOf, givenLine, allOnGrid, noLength, conflicting, conflictDetail, freeSlots, placed, roomFor, insertOf, known, freed, deleteOf}
@@ -54,11 +54,11 @@ pub record PaperCases : Type 0 where
   pub P11 : locateOf baseRule (afterAll baseRule (large 4) (labelled 0 0 10 0 1 0 ∷ labelled 0 0 10 10 2 0 ∷ [])) (0 ∷ 5 ∷ []) (zeros 1) ≡ record { answer = Done 0; answers = 2 ∷ [] }
 
 pub paperCases : PaperCases
-unfolding those every upFrom sameList turn leftOf rightOf corners meets inside samePoint isEnd on within parts conflict inLineOf kindOf endsOf simpleWith simple listed tree nodesOf listingsOf padded lengthsFit slotsOf isLive lineAt liveSlots liveLines liveSound emptySound slotSound noneConflict nodeTable listingTable sound rebuilt withSlot cleared startOf givenLine allOnGrid noLength conflicting conflictDetail freeSlots placed roomFor insertOf known freed deleteOf below run heightOver rise higher highest upperLabel answerAt answerTo answersTo locateOf leafAt leafOver showOf replyTo afterAll numbers baseRule treeBy
+unfolding those every upFrom sameList turn leftOf rightOf corners meetsArea meets inside samePoint isEnd on within parts conflict inLineOf kindOf endsOf simpleWith simple listed tree nodesOf listingsOf padded lengthsFit slotsOf isLive lineAt liveSlots liveLines liveSound emptySound slotSound noneConflict nodeTable listingTable sound rebuilt withSlot cleared startOf givenLine allOnGrid noLength conflicting conflictDetail freeSlots placed roomFor insertOf known freed deleteOf below run heightOver rise higher highest upperLabel answerAt answerTo answersTo locateOf leafAt leafOver showOf replyTo afterAll numbers baseRule treeBy
 paperCases =
     record { P1 = (refl, refl); P2 = refl; P3 = refl; P4 = refl; P5 = (refl, refl); P6 = refl; P7 = (refl, refl); P8 = refl; P9 = (refl, refl); P10 = refl; P11 = refl }
 
 -- "Run only"
 pub runOnly : showOf baseRule (afterAll baseRule (large 4) (line 0 0 8 8 ∷ line 0 0 8 7 ∷ line 4 7 5 7 ∷ delete 131073 ∷ [])) 0 0 ≡ record { told = record { answer = Done 0; side = 16; west = record { 0 = 0 }; south = record { 0 = 0 } }; first = 2; part = 0 ∷ 1 ∷ [] }
-unfolding those every upFrom sameList turn leftOf rightOf corners meets inside samePoint isEnd on within parts conflict inLineOf kindOf endsOf simpleWith simple listed tree nodesOf listingsOf padded lengthsFit slotsOf isLive lineAt liveSlots liveLines liveSound emptySound slotSound noneConflict nodeTable listingTable sound rebuilt withSlot cleared startOf givenLine allOnGrid noLength conflicting conflictDetail freeSlots placed roomFor insertOf known freed deleteOf below run heightOver rise higher highest upperLabel answerAt answerTo answersTo locateOf leafAt leafOver showOf replyTo afterAll numbers baseRule treeBy
+unfolding those every upFrom sameList turn leftOf rightOf corners meetsArea meets inside samePoint isEnd on within parts conflict inLineOf kindOf endsOf simpleWith simple listed tree nodesOf listingsOf padded lengthsFit slotsOf isLive lineAt liveSlots liveLines liveSound emptySound slotSound noneConflict nodeTable listingTable sound rebuilt withSlot cleared startOf givenLine allOnGrid noLength conflicting conflictDetail freeSlots placed roomFor insertOf known freed deleteOf below run heightOver rise higher highest upperLabel answerAt answerTo answersTo locateOf leafAt leafOver showOf replyTo afterAll numbers baseRule treeBy
 runOnly = refl

@@ -3,9 +3,9 @@ use mathlib.Core.Path.{_≡_, refl}
 use mathlib.Core.List.{List, [], _∷_, _++_}
 use Prim.Native.Nat.{ℕ}
 use Rattle.algebra.specs.Words.{those, every, upFrom, sameList, padded}
-use Rattle.definitions.specs.declared.Answer.the-variants.{Done, Lengths, Damaged, OffGrid, NoLength, Conflict, NoSlot, NoRoom, UnknownHandle}
+use Rattle.definitions.specs.declared.Answer.the-variants.{Done, Lengths, Damaged, OffGrid, NoLength, Conflict, NoSlot, NoRoom, UnknownHandle, BadWindow, ListShort}
 use Rattle.definitions.specs.declared.Kind.the-variants.{Crossing, Touching, Overlap, Same}
-use Rattle.definitions.specs.Shape.{turn, leftOf, rightOf, corners, meets, inside, samePoint, isEnd, on, within, parts, conflict, inLineOf, kindOf}
+use Rattle.definitions.specs.Shape.{turn, leftOf, rightOf, corners, meetsArea, meets, inside, samePoint, isEnd, on, within, parts, conflict, inLineOf, kindOf}
 use Rattle.definitions.specs.Tree.{baseRule, treeBy, endsOf, simpleWith, simple, listed, tree, nodesOf, listingsOf}
 use Rattle.definitions.specs.Tables.{Tables, lengthsFit, slotsOf, isLive, lineAt, liveSlots, liveLines, liveSound, emptySound, slotSound, noneConflict, nodeTable, listingTable, sound}
 use Rattle.definitions.specs.Calls.{numberOf, kindNumber, reply, rebuilt, withSlot, cleared, startOf, givenLine, allOnGrid, noLength, conflicting, conflictDetail, freeSlots, placed, roomFor, insertOf, known, freed, deleteOf}
@@ -64,7 +64,7 @@ pub record OwnCases : Type 0 where
   -- the upper side of a line drawn westward is its right, of one drawn eastward its left; an upright line is never below; seven points
   pub seven : locateOf baseRule threeWays (0 ∷ 5000 ∷ 0 ∷ 9000 ∷ 0 ∷ 8192 ∷ 0 ∷ 2000 ∷ 0 ∷ 0 ∷ 16383 ∷ 5000 ∷ 16384 ∷ 0 ∷ []) (9 ∷ 9 ∷ 9 ∷ 9 ∷ 9 ∷ 9 ∷ 9 ∷ []) ≡ record { answer = Done 0; answers = 4 ∷ 5 ∷ 65537 ∷ 65538 ∷ 65536 ∷ 0 ∷ 4294967295 ∷ [] }
   -- every refusal by its number and detail: as the paper has them, and of calls
-  pub refusals : numberOf Lengths ∷ numberOf Damaged ∷ numberOf OffGrid ∷ numberOf NoLength ∷ numberOf (Conflict 1023) ∷ numberOf NoSlot ∷ numberOf NoRoom ∷ numberOf UnknownHandle ∷ [] ≡ 4294967296 ∷ 8589934592 ∷ 12884901888 ∷ 17179869184 ∷ 21474837503 ∷ 25769803776 ∷ 30064771072 ∷ 34359738368 ∷ []
+  pub refusals : numberOf Lengths ∷ numberOf Damaged ∷ numberOf OffGrid ∷ numberOf NoLength ∷ numberOf (Conflict 1023) ∷ numberOf NoSlot ∷ numberOf NoRoom ∷ numberOf UnknownHandle ∷ numberOf BadWindow ∷ numberOf ListShort ∷ [] ≡ 4294967296 ∷ 8589934592 ∷ 12884901888 ∷ 17179869184 ∷ 21474837503 ∷ 25769803776 ∷ 30064771072 ∷ 34359738368 ∷ 38654705664 ∷ 42949672960 ∷ []
   pub lengths : numbers baseRule (fresh 1 0 0) (line 0 0 1 1 ∷ delete 1 ∷ locate [] [] ∷ show 0 0 ∷ []) ≡ refusal 1 0 ∷ refusal 1 0 ∷ refusal 1 0 ∷ refusal 1 0 ∷ []
   pub startLengths : numberOf (startOf (fresh 1 0 0) .answer) ≡ refusal 1 0
   pub lists : numbers baseRule (fresh 1 1 0) (locate (0 ∷ []) [] ∷ locate (0 ∷ 0 ∷ []) [] ∷ locate [] [] ∷ []) ≡ refusal 1 0 ∷ refusal 1 0 ∷ 0 ∷ []
@@ -92,6 +92,6 @@ pub record OwnCases : Type 0 where
   pub runOnly : showOf baseRule (afterAll baseRule (fresh 4 200 200) (line 0 0 8 8 ∷ line 0 0 8 7 ∷ line 4 7 5 7 ∷ delete 131073 ∷ [])) 0 0 ≡ shows 16 0 0 2 (0 ∷ 1 ∷ [])
 
 pub ownCases : OwnCases
-unfolding those every upFrom sameList turn leftOf rightOf corners meets inside samePoint isEnd on within parts conflict inLineOf kindOf endsOf simpleWith simple listed tree nodesOf listingsOf padded lengthsFit slotsOf isLive lineAt liveSlots liveLines liveSound emptySound slotSound noneConflict nodeTable listingTable sound rebuilt withSlot cleared startOf givenLine allOnGrid noLength conflicting conflictDetail freeSlots placed roomFor insertOf known freed deleteOf below run heightOver rise higher highest upperLabel answerAt answerTo answersTo locateOf leafAt leafOver showOf replyTo afterAll numbers baseRule treeBy
+unfolding those every upFrom sameList turn leftOf rightOf corners meetsArea meets inside samePoint isEnd on within parts conflict inLineOf kindOf endsOf simpleWith simple listed tree nodesOf listingsOf padded lengthsFit slotsOf isLive lineAt liveSlots liveLines liveSound emptySound slotSound noneConflict nodeTable listingTable sound rebuilt withSlot cleared startOf givenLine allOnGrid noLength conflicting conflictDetail freeSlots placed roomFor insertOf known freed deleteOf below run heightOver rise higher highest upperLabel answerAt answerTo answersTo locateOf leafAt leafOver showOf replyTo afterAll numbers baseRule treeBy
 ownCases =
     record { start = refl; upright = refl; fanNodes = refl; fanListings = refl; leafNW = refl; leafNE = refl; leafSW = refl; leafSE = refl; leafEmpty = refl; between = refl; emptied = refl; seven = refl; refusals = refl; lengths = refl; startLengths = refl; lists = refl; damaged = refl; offGrid = refl; noLength = refl; conflicts = refl; kinds = refl; crossed = refl; touched = refl; overlapped = refl; sames = refl; noSlot = refl; noRoom = refl; unknown = refl; sevenCalls = refl; sevenLeft = refl; runOnly = refl }

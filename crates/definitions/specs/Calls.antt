@@ -6,7 +6,7 @@ use lib.ListN.{length, replicate, take, drop}
 use lib.Dec.{leb, ltb, eqb}
 use Rattle.algebra.specs.Words.{those, if_then_else_}
 use Rattle.definitions.specs.declared.Answer.{Answer}
-use Rattle.definitions.specs.declared.Answer.the-variants.{Done, Lengths, Damaged, OffGrid, NoLength, Conflict, NoSlot, NoRoom, UnknownHandle}
+use Rattle.definitions.specs.declared.Answer.the-variants.{Done, Lengths, Damaged, OffGrid, NoLength, Conflict, NoSlot, NoRoom, UnknownHandle, BadWindow, ListShort}
 use Rattle.definitions.specs.declared.Given.{Given}
 use Rattle.definitions.specs.declared.Kind.{Kind}
 use Rattle.definitions.specs.declared.Kind.the-variants.{Crossing, Touching, Overlap, Same}
@@ -25,6 +25,8 @@ refusalOf (Conflict d) = 5
 refusalOf NoSlot = 6
 refusalOf NoRoom = 7
 refusalOf UnknownHandle = 8
+refusalOf BadWindow = 9
+refusalOf ListShort = 10
 
 abbrev pub detailOf : Answer → ℕ
 detailOf (Done d) = d
@@ -36,6 +38,8 @@ detailOf (Conflict d) = d
 detailOf NoSlot = 0
 detailOf NoRoom = 0
 detailOf UnknownHandle = 0
+detailOf BadWindow = 0
+detailOf ListShort = 0
 
 -- the one 64-bit number that the host gets
 abbrev pub numberOf : Answer → ℕ

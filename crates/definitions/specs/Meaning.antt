@@ -10,7 +10,8 @@ use Rattle.algebra.specs.Words.{Rising}
 use Rattle.definitions.specs.declared.Point.{Point}
 use Rattle.definitions.specs.declared.Kind.{Kind}
 use Rattle.definitions.specs.declared.Kind.the-variants.{Crossing, Touching, Overlap, Same}
-use Rattle.definitions.specs.Shape.{Line, Block, east, north, nwOf, neOf, swOf, seOf, gridPoint, minX, maxX, minY, maxY}
+use Rattle.definitions.specs.declared.Window.{Window}
+use Rattle.definitions.specs.Shape.{Line, Area, Block, east, north, nwOf, neOf, swOf, seOf, gridPoint, minX, maxX, minY, maxY}
 use Rattle.definitions.specs.Tree.{Rule, Tree, leaf, divided, tree, listingsOf}
 use Rattle.definitions.specs.Tables.{Tables, entry, live, generation, x1, y1, x2, y2, leftLabel, rightLabel, lineAt, liveLines}
 use Rattle.definitions.specs.Lookup.{westEnd, eastEnd, run}
@@ -37,12 +38,16 @@ pub record OnLine (s : Spot) (l : Line) : Type 0 where
   pub fromSouth : minY l * s .Z ≤ s .Y
   pub toNorth : s .Y ≤ maxY l * s .Z
 
--- the spot lies in the closed block
-pub record InBlock (s : Spot) (k : Block) : Type 0 where
+-- the spot lies in the closed rectangle
+pub record InArea (s : Spot) (k : Area) : Type 0 where
   pub fromWest : k .west * s .Z ≤ s .X
-  pub toEast : s .X ≤ east k * s .Z
+  pub toEast : s .X ≤ k .east * s .Z
   pub fromSouth : k .south * s .Z ≤ s .Y
-  pub toNorth : s .Y ≤ north k * s .Z
+  pub toNorth : s .Y ≤ k .north * s .Z
+
+-- the spot lies in the closed block
+abbrev pub InBlock : Spot → Block → Type 0
+InBlock s k = InArea s (record { west = k .west; south = k .south; east = east k; north = north k })
 
 -- the spot is the point
 pub record AtPoint (s : Spot) (p : Point) : Type 0 where
@@ -51,6 +56,10 @@ pub record AtPoint (s : Spot) (p : Point) : Type 0 where
 
 abbrev pub AtEnd : Spot → Line → Type 0
 AtEnd s l = AtPoint s (l .a) ⊎ AtPoint s (l .b)
+
+-- some point of the line, ends included, lies in the closed rectangle
+abbrev pub MeetsArea : Area → Line → Type 0
+MeetsArea k l = (s : Spot) × OnLine s l × InArea s k
 
 -- some point of the line, ends included, lies in the closed block
 abbrev pub Meets : Block → Line → Type 0
@@ -193,6 +202,17 @@ pub record SoundMap (rule : Rule) (t : Tables) : Type 0 where
   pub slots : (s : ℕ) → s < length (t .lines) / 8 → LiveSlot (t .lines) s ⊎ EmptySlot (t .lines) s
   pub apart : (s u : ℕ) → Live (t .lines) s → Live (t .lines) u → (s ≡ u → ⊥) → ¬ Conflicts (lineAt (t .lines) s) (lineAt (t .lines) u)
   pub tables : Tabled (tree rule (liveLines (t .lines))) (t .nodes) (t .listings)
+
+-- ---- The window
+
+-- some point of the line, ends included, lies in the closed rectangle; a grid number g stands at half-step 2g + 1
+abbrev pub MeetsWindow : Window → Line → Type 0
+MeetsWindow w l = MeetsArea (record { west = 2 * w .west + 1; south = 2 * w .south + 1; east = 2 * w .east + 1; north = 2 * w .north + 1 }) l
+
+-- the slots of the live lines that meet the window, each once, by rising slot
+pub record InWindow (lines : List ℕ) (w : Window) (slots : List ℕ) : Type 0 where
+  pub rising : Rising slots
+  pub exactly : (s : ℕ) → List·Memᴰ s slots ↔ (Live lines s × MeetsWindow w (lineAt lines s))
 
 -- ---- The lookup, over heights as fractions
 

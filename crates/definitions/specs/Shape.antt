@@ -1,4 +1,4 @@
--- Two scales; points, lines and blocks in half-steps; the turn; when a line meets a block, and when two lines conflict.
+-- Two scales; points, lines, rectangles and blocks in half-steps; the turn; when a line meets a rectangle, and when two lines conflict.
 use mathlib.Core.Bool.{Bool, not, _&&_, _||_}
 use Prim.Native.Nat.{ℕ, _+_, _*_, _/_, min, max}
 use lib.Dec.{leb, eqb}
@@ -30,6 +30,13 @@ pub record Line : Type 0 where
   pub a : Point
   pub b : Point
 
+-- a rectangle by its four sides; it includes them and its corners
+pub record Area : Type 0 where
+  pub west : ℕ
+  pub south : ℕ
+  pub east : ℕ
+  pub north : ℕ
+
 -- a block by its south-west corner and its side; it includes its four sides and corners
 pub record Block : Type 0 where
   pub west : ℕ
@@ -41,6 +48,10 @@ east k = k .west + k .side
 
 abbrev pub north : Block → ℕ
 north k = k .south + k .side
+
+-- a block is a rectangle
+abbrev pub areaOf : Block → Area
+areaOf k = record { west = k .west; south = k .south; east = east k; north = north k }
 
 -- the square from 0 to 32,768 half-steps each way
 abbrev pub wholeMap : Block
@@ -73,7 +84,7 @@ leftOf l c = isPositive (turn (l .a) (l .b) c)
 unfoldable pub rightOf : Line → Point → Bool
 rightOf l c = isNegative (turn (l .a) (l .b) c)
 
--- ---- Lines and blocks
+-- ---- Lines, rectangles and blocks
 
 abbrev pub between : ℕ → ℕ → ℕ → Bool
 between lo n hi = leb lo n && leb n hi
@@ -90,17 +101,21 @@ minY l = min (l .a .y .0) (l .b .y .0)
 abbrev pub maxY : Line → ℕ
 maxY l = max (l .a .y .0) (l .b .y .0)
 
--- the four corners of the block all pass the test
-unfoldable pub corners : (Point → Bool) → Block → Bool
+-- the four corners of the rectangle all pass the test
+unfoldable pub corners : (Point → Bool) → Area → Bool
 corners test k =
-    test (halfPoint (k .west) (k .south)) && test (halfPoint (east k) (k .south))
-    && test (halfPoint (k .west) (north k)) && test (halfPoint (east k) (north k))
+    test (halfPoint (k .west) (k .south)) && test (halfPoint (k .east) (k .south))
+    && test (halfPoint (k .west) (k .north)) && test (halfPoint (k .east) (k .north))
 
--- a line meets a block: the smallest rectangle around the line touches the block, and the corners are not all strictly on one side
-unfoldable pub meets : Block → Line → Bool
-meets k l =
-    leb (minX l) (east k) && leb (k .west) (maxX l) && leb (minY l) (north k) && leb (k .south) (maxY l)
+-- a line meets a rectangle: the smallest rectangle around the line touches it, and its corners are not all strictly on one side
+unfoldable pub meetsArea : Area → Line → Bool
+meetsArea k l =
+    leb (minX l) (k .east) && leb (k .west) (maxX l) && leb (minY l) (k .north) && leb (k .south) (maxY l)
     && not (corners (leftOf l) k) && not (corners (rightOf l) k)
+
+-- a line meets a block
+unfoldable pub meets : Block → Line → Bool
+meets k l = meetsArea (areaOf k) l
 
 -- the closed block holds the point
 unfoldable pub inside : Block → Point → Bool

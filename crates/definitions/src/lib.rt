@@ -21,6 +21,14 @@ pub struct Given {
     pub right: u16,
 }
 
+// A rectangle as the caller of window gives it: four coordinates, any 16-bit numbers.
+pub struct Window {
+    pub west: u16,
+    pub south: u16,
+    pub east: u16,
+    pub north: u16,
+}
+
 // How two lines conflict.
 pub enum Kind {
     Crossing,
@@ -40,6 +48,8 @@ pub enum Answer {
     NoSlot,
     NoRoom,
     UnknownHandle,
+    BadWindow,
+    ListShort,
 }
 
 // What show leaf tells: the leaf's side and south-west corner in half-steps, all 0 on refusal.

@@ -4,7 +4,7 @@ use mathlib.Core.List.{List, [], _∷_}
 use Prim.Native.Nat.{ℕ, _<_}
 use native.Mathlib.Omega.{arith}
 use Rattle.definitions.specs.declared.Answer.{Answer}
-use Rattle.definitions.specs.declared.Answer.the-variants.{Done, Lengths, Damaged, OffGrid, NoLength, Conflict, NoSlot, NoRoom, UnknownHandle}
+use Rattle.definitions.specs.declared.Answer.the-variants.{Done, Lengths, Damaged, OffGrid, NoLength, Conflict, NoSlot, NoRoom, UnknownHandle, BadWindow, ListShort}
 use Rattle.definitions.specs.declared.Given.{Given}
 use Rattle.definitions.specs.Calls.{refusalOf, detailOf, numberOf, startOf, insertOf, deleteOf}
 use Rattle.definitions.specs.Meaning.{SoundMap}
@@ -42,7 +42,7 @@ module _ (rule : Rule) (fair : Fair rule) (t : Tables) where
 
 -- the one law by cases on the answers: each is told by its refusal and its detail
 abbrev refusals : List (ℕ → Answer)
-refusals = (λ d. Lengths) ∷ (λ d. Damaged) ∷ (λ d. OffGrid) ∷ (λ d. NoLength) ∷ Conflict ∷ (λ d. NoSlot) ∷ (λ d. NoRoom) ∷ (λ d. UnknownHandle) ∷ []
+refusals = (λ d. Lengths) ∷ (λ d. Damaged) ∷ (λ d. OffGrid) ∷ (λ d. NoLength) ∷ Conflict ∷ (λ d. NoSlot) ∷ (λ d. NoRoom) ∷ (λ d. UnknownHandle) ∷ (λ d. BadWindow) ∷ (λ d. ListShort) ∷ []
 
 answer-is : (a : Answer) → a ≡ standing refusals (place refusals (refusalOf a)) (detailOf a)
 answer-is (Done d) = refl
@@ -54,6 +54,8 @@ answer-is (Conflict d) = refl
 answer-is NoSlot = refl
 answer-is NoRoom = refl
 answer-is UnknownHandle = refl
+answer-is BadWindow = refl
+answer-is ListShort = refl
 
 pub number-tells : (a b : Answer) → detailOf a < 4294967296 → detailOf b < 4294967296 → numberOf a ≡ numberOf b → a ≡ b
 number-tells a b h k e = answer-is a ∙ (λ i. standing refusals (place refusals (refusal i)) (detail i)) ∙ sym (answer-is b)

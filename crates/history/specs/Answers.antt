@@ -4,7 +4,7 @@ use Rattle.definitions.specs.declared.Given.{Given}
 use Rattle.algebra.specs.Lists.{padded-length}
 use Rattle.algebra.specs.Tests.{and-l, and-r}
 use Rattle.definitions.specs.Calls.{Reply, refusalOf, cleared, insertOf, deleteOf, rebuilt, freed, known}
-use Rattle.definitions.specs.History.{Call, insert, delete, locate, show, replyTo, afterAll}
+use Rattle.definitions.specs.History.{Call, insert, delete, locate, show, window, replyTo, afterAll}
 use Rattle.definitions.specs.Tables.{Tables, lengthsFit, nodeTable, listingTable}
 use Rattle.definitions.specs.Tree.{Rule}
 use Rattle.meaning.specs.Fair.{Fair}
@@ -67,6 +67,7 @@ module _ (rule : Rule) (fair : Fair rule) where
   calls-fit (delete h ∷ more) t s e = calls-fit more (deleteOf rule t h .after) (delete-sound rule fair t h s) (delete-fit t h s e)
   calls-fit (locate ps as′ ∷ more) t s e = calls-fit more t s e
   calls-fit (show x y ∷ more) t s e = calls-fit more t s e
+  calls-fit (window w slots ∷ more) t s e = calls-fit more t s e
 
   -- so after a start tests 1 and 2 always pass
   pub record Ready (t : Tables) : Type 0 where

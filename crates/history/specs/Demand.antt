@@ -12,7 +12,7 @@ use Rattle.definitions.specs.declared.Given.{Given}
 use Rattle.definitions.specs.Tree.{Rule, Tree, leaf, divided, tree}
 use Rattle.definitions.specs.Tables.{Tables, lengthsFit, generation, x1, y1, x2, y2, leftLabel, rightLabel, liveSlots, liveLines, sound}
 use Rattle.definitions.specs.Calls.{Reply, cleared, insertOf, deleteOf, refusalOf, detailOf}
-use Rattle.definitions.specs.History.{Call, insert, delete, locate, show, replyTo, afterAll}
+use Rattle.definitions.specs.History.{Call, insert, delete, locate, show, window, replyTo, afterAll}
 
 -- ---- What the calls say
 
@@ -27,6 +27,7 @@ givenNow (insert g) r = if eqb (refusalOf r) 0 then detailOf r ∷ [] else []
 givenNow (delete h) r = []
 givenNow (locate ps as′) r = []
 givenNow (show x y) r = []
+givenNow (window w slots) r = []
 
 module _ (rule : Rule) where
   -- the calls with their answers

@@ -5,7 +5,7 @@ use Rattle.algebra.specs.Lists.{in-those, of-those, in-upFrom, to-upFrom}
 use Rattle.algebra.specs.Tests.{no-path, and-l, and-r}
 use Rattle.algebra.specs.Words.{those, upFrom, if_then_else_}
 use Rattle.definitions.specs.Calls.{withSlot, Reply, refusalOf, detailOf, cleared, rebuilt, placed, freed, freeSlots, known}
-use Rattle.definitions.specs.History.{Call, insert, delete, locate, show, replyTo, afterAll}
+use Rattle.definitions.specs.History.{Call, insert, delete, locate, show, window, replyTo, afterAll}
 use Rattle.definitions.specs.Tables.{entry, Tables, generation, isLive, slotsOf, liveSlots}
 use Rattle.definitions.specs.Tree.{Rule}
 use Rattle.meaning.specs.Slots.{put, bare, other-slot, same-or-not, zero-at, zero-dead, gift-lives, as-long, others-live, others-gen, put-at, bare-at, bare-dead, as-long′, rest-live, rest-gen}
@@ -27,6 +27,7 @@ heldAfter held (insert g) r = if eqb (refusalOf r) 0 then record { handle = deta
 heldAfter held (delete h) r = if eqb (refusalOf r) 0 then those (λ i. not (eqb (i .handle) h)) held else held
 heldAfter held (locate ps as′) r = held
 heldAfter held (show x y) r = held
+heldAfter held (window w slots) r = held
 
 -- inserted and not since deleted, by the calls and their answers alone
 unfoldable pub heldBy : List Held → List Heard → List Held
@@ -271,6 +272,7 @@ module _ (rule : Rule) where
   agree-call t (delete h) held a = agree-delete t h held (delete-is rule t h) a
   agree-call t (locate ps as′) held a = unfold heldAfter in a
   agree-call t (show x y) held a = unfold heldAfter in a
+  agree-call t (window w slots) held a = unfold heldAfter in a
 
   pub agree-all : (cs : List Call) (t : Tables) (held : List Held) → Agree t held → Agree (afterAll rule t cs) (heldBy held (heard rule t cs))
   unfolding afterAll heldBy heard

@@ -6,7 +6,7 @@ use Rattle.algebra.specs.Lists.{of-those, in-those, every→, every←, padded-
 use Rattle.algebra.specs.Tests.{no-path, and-l, and-r, and-b, or-l, or-r, false-by}
 use Rattle.algebra.specs.Words.{those, every, padded}
 use Rattle.definitions.specs.Calls.{cleared, givenLine, Reply, reply, refusalOf, insertOf, deleteOf, rebuilt, placed, freed, allOnGrid, noLength, conflicting, conflictDetail, freeSlots, roomFor, known}
-use Rattle.definitions.specs.History.{Call, insert, delete, locate, show, replyTo, afterAll}
+use Rattle.definitions.specs.History.{Call, insert, delete, locate, show, window, replyTo, afterAll}
 use Rattle.definitions.specs.Shape.{within, Line, conflict, on, isEnd, parts, leftOf, rightOf}
 use Rattle.definitions.specs.Tables.{Tables, generation, x1, y1, x2, y2, isLive, slotsOf, liveSlots, lineAt, liveLines, liveSound, emptySound, slotSound, noneConflict, nodeTable, listingTable, lengthsFit, sound}
 use Rattle.definitions.specs.Tree.{leaf, listed, tree, nodesOf, listingsOf, Rule}
@@ -179,6 +179,7 @@ module _ (rule : Rule) (fair : Fair rule) where
   calls-sound (delete h ∷ more) t s = calls-sound more (deleteOf rule t h .after) (delete-sound t h s)
   calls-sound (locate ps as′ ∷ more) t s = calls-sound more t s
   calls-sound (show x y ∷ more) t s = calls-sound more t s
+  calls-sound (window w slots ∷ more) t s = calls-sound more t s
 
   empty-tree : tree rule [] ≡ leaf []
   unfolding tree

@@ -6,7 +6,7 @@ use Rattle.algebra.specs.Lists.{in-upFrom, of-those}
 use Rattle.algebra.specs.Tests.{and-r, no-path}
 use Rattle.algebra.specs.Words.{upFrom}
 use Rattle.definitions.specs.Calls.{Reply, reply, refusalOf, insertOf, deleteOf, rebuilt, placed, freed, allOnGrid, noLength, conflicting, conflictDetail, freeSlots, roomFor, known}
-use Rattle.definitions.specs.History.{Call, insert, delete, locate, show, replyTo, afterAll}
+use Rattle.definitions.specs.History.{Call, insert, delete, locate, show, window, replyTo, afterAll}
 use Rattle.definitions.specs.Tables.{Tables, generation, isLive, slotsOf, lengthsFit, sound}
 use Rattle.definitions.specs.Tree.{Rule}
 use Rattle.plane.specs.Compare.{order}
@@ -201,6 +201,7 @@ module _ (rule : Rule) where
   step t (delete h) = step-delete t h (delete-is t h)
   step t (locate ps as′) = idle t _ [] refl
   step t (show x y) = idle t _ [] refl
+  step t (window w slots) = idle t _ [] refl
 
   given-newer : (cs : List Call) (t : Tables) (h : ℕ) → List·Memᴰ h (givenBy rule t cs) → Newer t h
   unfolding givenBy
@@ -285,6 +286,7 @@ module _ (rule : Rule) where
   dead-step t (delete i) h d = dead-delete t i h (delete-is t i) d
   dead-step t (locate ps as′) h d = d
   dead-step t (show x y) h d = d
+  dead-step t (window w slots) h d = d
 
   -- an accepted delete leaves its number dead
   dies : (t : Tables) (h : ℕ) → deleteOf rule t h .answer ≡ Done 0 → Dead (deleteOf rule t h .after) h

@@ -14,6 +14,7 @@ pub mod Cascade
 pub mod Conditions
 pub mod Left
 pub mod Exact
+pub mod Window
 pub mod Accepted
 pub mod Room
 pub mod Grown

@@ -7,24 +7,26 @@ use mathlib.Core.List.{List, [], _∷_, _++_, List·Memᴰ}
 use Prim.Native.Nat.{ℕ, _+_, _*_, _/_, _%_, _≤_, _<_}
 use native.Mathlib.Omega.{arith}
 use lib.Dec.{eqb}
-use lib.ListN.{length, replicate}
-use Rattle.algebra.specs.Words.{those, every, padded, if_then_else_}
+use lib.ListN.{length, take, getD, replicate}
+use Rattle.algebra.specs.Words.{Rising, those, every, padded, if_then_else_}
 use Rattle.definitions.specs.declared.Answer.{Answer}
-use Rattle.definitions.specs.declared.Answer.the-variants.{Done, Lengths, Damaged, OffGrid, NoLength, Conflict, NoSlot, NoRoom, UnknownHandle}
+use Rattle.definitions.specs.declared.Answer.the-variants.{Done, Lengths, Damaged, OffGrid, NoLength, Conflict, NoSlot, NoRoom, UnknownHandle, BadWindow, ListShort}
 use Rattle.definitions.specs.declared.Given.{Given}
 use Rattle.definitions.specs.declared.Kind.{Kind}
 use Rattle.definitions.specs.declared.Kind.the-variants.{Crossing, Touching, Overlap, Same}
 use Rattle.definitions.specs.declared.Point.{Point}
-use Rattle.definitions.specs.Shape.{Line, Block, wholeMap, gridPoint, meets, conflict, kindOf}
+use Rattle.definitions.specs.declared.Window.{Window}
+use Rattle.definitions.specs.Shape.{Line, Area, Block, wholeMap, gridPoint, meetsArea, meets, conflict, kindOf}
 use Rattle.definitions.specs.Tree.{Rule, Tree, simple, baseRule, tree, listed, nodesOf, listingsOf}
 use Rattle.definitions.specs.Tables.{Tables, lengthsFit, generation, slotsOf, lineAt, liveSlots, liveLines, onGrid, slotSound, noneConflict, sound}
 use Rattle.definitions.specs.Calls.{numberOf, refusalOf, detailOf, kindNumber, cleared, startOf, insertOf, deleteOf, givenLine, known}
 use Rattle.definitions.specs.Lookup.{answerAt, answerTo, locateOf, showOf}
+use Rattle.definitions.specs.Window.{areaIn, slotsIn, windowOf}
 use Rattle.definitions.specs.History.{Call, afterAll}
-use Rattle.definitions.specs.Meaning.{Spot, OnLine, AtEnd, InBlock, In, Meets, Conflicts, OnlyShared, TwoShared, SameEnds, KindIs, Criteria, IsTree, LeafAt, ListedFrom, Stored, Tabled, Live, SoundMap, AnswersTo}
+use Rattle.definitions.specs.Meaning.{Spot, OnLine, AtEnd, InArea, InBlock, In, MeetsArea, Meets, MeetsWindow, InWindow, Conflicts, OnlyShared, TwoShared, SameEnds, KindIs, Criteria, IsTree, LeafAt, ListedFrom, Stored, Tabled, Live, SoundMap, AnswersTo}
 use Rattle.plane.specs.Crossing.{Proper, conflict-iff}
 use Rattle.plane.specs.Kinds.{kind-iff, one-kind, conflict-kinds}
-use Rattle.plane.specs.Meeting.{meets-iff}
+use Rattle.plane.specs.Meeting.{meets-area-iff, meets-iff}
 use Rattle.plane.specs.Whole.{MeetsWhole, ConflictsWhole, nothing-lost}
 use Rattle.meaning.specs.Apart.{leaf-lists, leaves-exact}
 use Rattle.meaning.specs.Everywhere.{in-a-leaf}
@@ -36,14 +38,16 @@ use Rattle.meaning.specs.OneLeaf.{one-leaf}
 use Rattle.meaning.specs.Plain.{plain, plain-answers, locate-iff, locate-walk}
 use Rattle.meaning.specs.Rules.{base-fair, fewer}
 use Rattle.meaning.specs.SoundMeans.{sound-means}
+use Rattle.meaning.specs.Window.{window-iff}
 use Rattle.meaning.specs.Stored.{stored-lists, lists-stored, tabled-iff}
 use Rattle.history.specs.Demand.{Held, Distinct, givenBy, heard, Stands, liveHeld, SameLines, Alike}
 use Rattle.history.specs.Exact.{start-exact, insert-exact, delete-exact, locate-exact, show-exact, no-slot-16}
 use Rattle.history.specs.Grown.{grown, grown-sound, grown-held, grown-known}
 use Rattle.history.specs.Holds.{demand-3}
-use Rattle.history.specs.Refusals.{None, Some, Lowest, WrongLengths, WrongLists, Unsound, AboveGrid, EndsEqual, InTheWay, AllTaken, Vacant, NeedsMore, TooLarge, Unknown, All0, PutIn, TakenOut, AnswersAll}
+use Rattle.history.specs.Refusals.{None, Some, Lowest, WrongLengths, WrongLists, Unsound, AboveGrid, EndsEqual, InTheWay, AllTaken, Vacant, NeedsMore, TooLarge, Unknown, WrongWindow, TooShort, All0, PutIn, TakenOut, AnswersAll}
 use Rattle.history.specs.Remains.{delete-tree}
 use Rattle.history.specs.Room.{no-room-exact}
+use Rattle.history.specs.Window.{window-exact}
 use Rattle.history.specs.Accepted.{start-accepted, insert-accepted, delete-accepted, number-tells}
 
 -- ---- The one number: refusal × 2^32 + detail
@@ -53,7 +57,8 @@ number-done d = omega arith
 
 number-refused : (numberOf Lengths ≡ 1 * 4294967296) × (numberOf Damaged ≡ 2 * 4294967296) × (numberOf OffGrid ≡ 3 * 4294967296) × (numberOf NoLength ≡ 4 * 4294967296)
     × ((d : ℕ) → numberOf (Conflict d) ≡ 5 * 4294967296 + d) × (numberOf NoSlot ≡ 6 * 4294967296) × (numberOf NoRoom ≡ 7 * 4294967296) × (numberOf UnknownHandle ≡ 8 * 4294967296)
-number-refused = (refl, refl, refl, refl, λ d. refl, refl, refl, refl)
+    × (numberOf BadWindow ≡ 9 * 4294967296) × (numberOf ListShort ≡ 10 * 4294967296)
+number-refused = (refl, refl, refl, refl, λ d. refl, refl, refl, refl, refl, refl)
 
 kinds-numbered : (kindNumber Crossing ≡ 1) × (kindNumber Touching ≡ 2) × (kindNumber Overlap ≡ 3) × (kindNumber Same ≡ 4)
 kinds-numbered = (refl, refl, refl, refl)
@@ -185,6 +190,38 @@ module _ (rule : Rule) (t : Tables) (x y : ℕ) where
       → (showOf rule t x y .told .side ≡ 0) × (showOf rule t x y .told .west .0 ≡ 0) × (showOf rule t x y .told .south .0 ≡ 0) × (showOf rule t x y .first ≡ 0) × (showOf rule t x y .part ≡ [])
   show-nothing h = let n = show-exact rule t x y .nothing h in (n .side, n .west, n .south, n .first, n .part)
 
+module _ (rule : Rule) (t : Tables) (w : Window) (list : List ℕ) where
+  abbrev windowTests : List (Type 0)
+  windowTests = WrongLengths t ∷ Unsound rule t ∷ WrongWindow w ∷ TooShort (t .lines) w list ∷ []
+
+  window-lengths : (windowOf rule t w list .answer ≡ Lengths) ↔ WrongLengths t
+  window-lengths = window-exact rule t w list .lengths
+
+  window-damaged : (windowOf rule t w list .answer ≡ Damaged) ↔ Unsound rule t × None 1 windowTests
+  window-damaged = window-exact rule t w list .damaged
+
+  window-bad : (windowOf rule t w list .answer ≡ BadWindow) ↔ WrongWindow w × None 2 windowTests
+  window-bad = window-exact rule t w list .badWindow
+
+  window-short : (windowOf rule t w list .answer ≡ ListShort) ↔ TooShort (t .lines) w list × None 3 windowTests
+  window-short = window-exact rule t w list .listShort
+
+  window-done : (n : ℕ) → (windowOf rule t w list .answer ≡ Done n) ↔ ((slots : List ℕ) × InWindow (t .lines) w slots × (n ≡ length slots)) × None 4 windowTests
+  window-done = window-exact rule t w list .done
+
+  -- the first n entries: the slots of the live lines with a point in the closed rectangle, each once, rising
+  window-shows : (n : ℕ) → windowOf rule t w list .answer ≡ Done n
+      → Rising (take n (windowOf rule t w list .slots)) × ((s : ℕ) → List·Memᴰ s (take n (windowOf rule t w list .slots)) ↔ (Live (t .lines) s × MeetsWindow w (lineAt (t .lines) s)))
+  window-shows n e = let f = window-exact rule t w list .shows n e .front in (f .rising, f .exactly)
+
+  -- the later ones stay, and no entry is added
+  window-later : (n : ℕ) → windowOf rule t w list .answer ≡ Done n
+      → (length (windowOf rule t w list .slots) ≡ length list) × ((i : ℕ) → n ≤ i → getD (windowOf rule t w list .slots) i 0 ≡ getD list i 0)
+  window-later n e = let f = window-exact rule t w list .shows n e in (f .long, f .later)
+
+  window-kept : 0 < refusalOf (windowOf rule t w list .answer) → windowOf rule t w list .slots ≡ list
+  window-kept = window-exact rule t w list .kept
+
 -- what is accepted leaves a sound map
 module _ (rule : Rule) (fair : Fair rule) (t : Tables) where
   start-sound : {d : ℕ} → startOf t .answer ≡ Done d → SoundMap rule (startOf t .after)
@@ -201,7 +238,18 @@ module _ (rule : Rule) (fair : Fair rule) (t : Tables) where
 block-meets : (k : Block) (l : Line) → (meets k l ≡ true) ↔ Meets k l
 block-meets = meets-iff
 
-nothing-is-lost : ((k : Block) (l : Line) → MeetsWhole k l ↔ Meets k l) × ((l m : Line) → ConflictsWhole l m ↔ Conflicts l m)
+area-meets : (k : Area) → k .west ≤ k .east → k .south ≤ k .north → (l : Line) → (meetsArea k l ≡ true) ↔ ((p : Spot) × OnLine p l × InArea p k)
+area-meets = meets-area-iff
+
+the-window : (lines : List ℕ) (w : Window) → w .west ≤ w .east → w .south ≤ w .north → (slots : List ℕ) → (slots ≡ slotsIn lines (areaIn w)) ↔ InWindow lines w slots
+the-window = window-iff
+
+-- a point of the line in the closed rectangle of grid numbers
+meets-window : (w : Window) (l : Line) → MeetsWindow w l
+    ↔ ((p : Spot) × OnLine p l × ((2 * w .west + 1) * p .Z ≤ p .X) × (p .X ≤ (2 * w .east + 1) * p .Z) × ((2 * w .south + 1) * p .Z ≤ p .Y) × (p .Y ≤ (2 * w .north + 1) * p .Z))
+meets-window w l = (λ (p, o, i). (p, o, i .fromWest, i .toEast, i .fromSouth, i .toNorth), λ (p, o, a, b, c, d). (p, o, record { fromWest = a; toEast = b; fromSouth = c; toNorth = d }))
+
+nothing-is-lost : ((k : Area) (l : Line) → MeetsWhole k l ↔ MeetsArea k l) × ((l m : Line) → ConflictsWhole l m ↔ Conflicts l m)
 nothing-is-lost = (nothing-lost .meeting, nothing-lost .crossing)
 
 lines-conflict : (l m : Line) → Proper l → Proper m → (conflict l m ≡ true) ↔ Conflicts l m

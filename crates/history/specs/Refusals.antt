@@ -3,19 +3,21 @@ use mathlib.Core.Path.{_≡_}
 use mathlib.Core.Logic.{_⊎_, _↔_}
 use mathlib.Core.List.{List, [], _∷_}
 use Prim.Native.Nat.{ℕ, zero, suc, _+_, _*_, _/_, _%_, _≤_, _<_}
-use lib.ListN.{length, getD}
+use lib.ListN.{length, take, getD}
 use Rattle.definitions.specs.declared.Answer.{Answer}
-use Rattle.definitions.specs.declared.Answer.the-variants.{Done, Lengths, Damaged, OffGrid, NoLength, Conflict, NoSlot, NoRoom, UnknownHandle}
+use Rattle.definitions.specs.declared.Answer.the-variants.{Done, Lengths, Damaged, OffGrid, NoLength, Conflict, NoSlot, NoRoom, UnknownHandle, BadWindow, ListShort}
 use Rattle.definitions.specs.declared.Given.{Given}
 use Rattle.definitions.specs.declared.Kind.{Kind}
+use Rattle.definitions.specs.declared.Window.{Window}
 use Rattle.definitions.specs.Shape.{Line, Block}
 use Rattle.definitions.specs.Tree.{Rule, tree, nodesOf, listingsOf}
 use Rattle.definitions.specs.Tables.{Tables, entry, live, generation, x1, y1, x2, y2, leftLabel, rightLabel, lineAt, liveLines}
 use Rattle.definitions.specs.Calls.{refusalOf, kindNumber, startOf, insertOf, deleteOf, givenLine, placed}
 use Rattle.definitions.specs.Lookup.{Showing, locateOf, showOf}
+use Rattle.definitions.specs.Window.{windowOf}
 use Rattle.meaning.specs.Fair.{Fair}
 use Rattle.meaning.specs.Show.{ShowsLeaf}
-use Rattle.definitions.specs.Meaning.{Live, EmptySlot, Conflicts, KindIs, Zeros, Tabled, SoundMap, AnswersTo}
+use Rattle.definitions.specs.Meaning.{Live, EmptySlot, Conflicts, KindIs, Zeros, Tabled, SoundMap, AnswersTo, InWindow}
 
 -- none of the first n tests applies
 abbrev pub None : ℕ → List (Type 0) → Type 0
@@ -105,6 +107,22 @@ pub data Unknown (lines : List ℕ) (h : ℕ) : Type 0 where
   notLive : ¬ (live lines (h / 65536) ≡ 1) → Unknown lines h
   otherGeneration : ¬ (generation lines (h / 65536) ≡ h % 65536) → Unknown lines h
 
+-- ---- 9 Bad window: a coordinate off the grid, or an inverted rectangle
+pub data WrongWindow (w : Window) : Type 0 where
+  offGrid : (16383 < w .west) ⊎ (16383 < w .south) ⊎ (16383 < w .east) ⊎ (16383 < w .north) → WrongWindow w
+  westOfEast : w .east < w .west → WrongWindow w
+  southOfNorth : w .north < w .south → WrongWindow w
+
+-- ---- 10 List short
+
+-- how many live lines meet the window
+abbrev pub Number : List ℕ → Window → ℕ → Type 0
+Number lines w n = (slots : List ℕ) × InWindow lines w slots × (n ≡ length slots)
+
+-- the list is shorter than their number
+abbrev pub TooShort : List ℕ → Window → List ℕ → Type 0
+TooShort lines w list = (n : ℕ) × Number lines w n × (length list < n)
+
 -- ---- What an accepted call leaves
 
 -- the tables are as long as before
@@ -145,6 +163,12 @@ pub record TakenOut (rule : Rule) (t : Tables) (s : ℕ) (after : Tables) : Type
 pub record AnswersAll (lines points answers after : List ℕ) : Type 0 where
   pub long : length after ≡ length answers
   pub each : (i : ℕ) → i < length answers → AnswersTo lines (getD points (2 * i) 0) (getD points (2 * i + 1) 0) (getD after i 0)
+
+-- window: the first n entries are the slots of the live lines that meet it; the list is as long as before, and its later entries stay
+pub record FrontShows (lines : List ℕ) (w : Window) (n : ℕ) (list after : List ℕ) : Type 0 where
+  pub long : length after ≡ length list
+  pub front : InWindow lines w (take n after)
+  pub later : (i : ℕ) → n ≤ i → getD after i 0 ≡ getD list i 0
 
 -- ---- The calls
 
@@ -230,3 +254,19 @@ module _ (rule : Rule) (t : Tables) (x y : ℕ) where
     -- the leaf that holds the point, and its part of the listing table
     pub leaf : (d : ℕ) → shown ≡ Done d → (place : Block) × ShowsLeaf rule t x y place (showOf rule t x y)
     pub nothing : 0 < refusalOf shown → Nothing (showOf rule t x y)
+
+module _ (rule : Rule) (t : Tables) (w : Window) (list : List ℕ) where
+  abbrev pub windowTests : List (Type 0)
+  windowTests = WrongLengths t ∷ Unsound rule t ∷ WrongWindow w ∷ TooShort (t .lines) w list ∷ []
+
+  abbrev pub viewed : Answer
+  viewed = windowOf rule t w list .answer
+
+  pub record WindowExact : Type 0 where
+    pub lengths : (viewed ≡ Lengths) ↔ WrongLengths t
+    pub damaged : (viewed ≡ Damaged) ↔ Unsound rule t × None 1 windowTests
+    pub badWindow : (viewed ≡ BadWindow) ↔ WrongWindow w × None 2 windowTests
+    pub listShort : (viewed ≡ ListShort) ↔ TooShort (t .lines) w list × None 3 windowTests
+    pub done : (n : ℕ) → (viewed ≡ Done n) ↔ Number (t .lines) w n × None 4 windowTests
+    pub shows : (n : ℕ) → viewed ≡ Done n → FrontShows (t .lines) w n list (windowOf rule t w list .slots)
+    pub kept : 0 < refusalOf viewed → windowOf rule t w list .slots ≡ list

@@ -2,14 +2,15 @@
 use Rattle.definitions.specs.declared.Answer.{Answer}
 use Rattle.definitions.specs.declared.Given.{Given}
 use Rattle.algebra.specs.Lists.{in-those, of-those}
+use Rattle.algebra.specs.Tests.{no-path}
 use Rattle.algebra.specs.Words.{those, if_then_else_}
 use Rattle.definitions.specs.Calls.{refusalOf, detailOf, cleared}
-use Rattle.definitions.specs.History.{Call, insert, delete, locate, show, afterAll}
+use Rattle.definitions.specs.History.{Call, insert, delete, locate, show, window, afterAll}
 use Rattle.definitions.specs.Tables.{Tables}
 use Rattle.definitions.specs.Tree.{Rule}
 use Rattle.history.specs.Demand.{Held, Heard, heard, liveHeld, Gave, Took, NeverTook, Stands, now, after}
 use Rattle.history.specs.Held.{heldAfter, heldBy, live-exact}
-use mathlib.Core.Path.{subst, _≡_, refl, sym, ap}
+use mathlib.Core.Path.{subst, _≡_, refl, sym, _∙_, ap}
 use mathlib.Core.Logic.{_⊎_, inl, inr, _↔_}
 use mathlib.Core.Bool.{Bool, true, false, not}
 use mathlib.Core.List.{List, [], _∷_, List·Memᴰ, List·Memᴰ·head, List·Memᴰ·tail, List·Memᴰ·not-nil, List·Memᴰ·cases-cons}
@@ -18,20 +19,26 @@ use native.Mathlib.Omega.{arith}
 use lib.Dec.{eqb}
 use borrow.Author.Tests.{eqb-true, eq-eqb, eqb-false, ne-eqb, not-true}
 
-not-both : (g : Given) (h : ℕ) → insert g ≡ delete h → ⊥
-not-both g h e = let z : _≡_ {A = ℕ} 0 1 = cc in omega arith
+-- which calls insert, and which delete; the others only read
+abbrev inserts : Call → Bool
+inserts (insert g) = true
+inserts (delete h) = false
+inserts (locate ps as′) = false
+inserts (show x y) = false
+inserts (window w slots) = false
 
-looked : (ps as′ : List ℕ) (h : ℕ) → locate ps as′ ≡ delete h → ⊥
-looked ps as′ h e = let z : _≡_ {A = ℕ} 0 1 = cc in omega arith
+abbrev deletes : Call → Bool
+deletes (insert g) = false
+deletes (delete h) = true
+deletes (locate ps as′) = false
+deletes (show x y) = false
+deletes (window w slots) = false
 
-showed : (x y h : ℕ) → show x y ≡ delete h → ⊥
-showed x y h e = let z : _≡_ {A = ℕ} 0 1 = cc in omega arith
+no-insert : {c : Call} {g : Given} → inserts c ≡ false → c ≡ insert g → ⊥
+no-insert f e = no-path (sym f ∙ ap inserts e)
 
-looked-in : (ps as′ : List ℕ) (g : Given) → locate ps as′ ≡ insert g → ⊥
-looked-in ps as′ g e = let z : _≡_ {A = ℕ} 0 1 = cc in omega arith
-
-showed-in : (x y : ℕ) (g : Given) → show x y ≡ insert g → ⊥
-showed-in x y g e = let z : _≡_ {A = ℕ} 0 1 = cc in omega arith
+no-delete : {c : Call} {h : ℕ} → deletes c ≡ false → c ≡ delete h → ⊥
+no-delete f e = no-path (sym f ∙ ap deletes e)
 
 same-given : (g k : Given) → insert g ≡ insert k → g ≡ k
 same-given g k e = cc
@@ -52,8 +59,8 @@ one→ held (insert g) r i m = go (eqb (refusalOf r) 0) refl m
         first : (i ≡ record { handle = detailOf r; line = g }) ⊎ List·Memᴰ i held
             → (List·Memᴰ i held × (Took (record { call = insert g; answer = r }) (i .handle) → ⊥)) ⊎ Gave (record { call = insert g; answer = r }) i
         first (inl q) = inr (ap (λ (j : Held). insert (j .line)) (sym q), eqb-true _ _ e, ap (λ (j : Held). j .handle) (sym q))
-        first (inr n) = inl (n, λ t. not-both g (i .handle) (t .0))
-    go false e m = inl (m, λ t. not-both g (i .handle) (t .0))
+        first (inr n) = inl (n, λ t. no-delete refl (t .0))
+    go false e m = inl (m, λ t. no-delete refl (t .0))
 one→ held (delete h) r i m = go (eqb (refusalOf r) 0) refl m
   where
     go : (b : Bool) → eqb (refusalOf r) 0 ≡ b → List·Memᴰ i (if b then those (λ i. not (eqb (i .handle) h)) held else held)
@@ -62,8 +69,9 @@ one→ held (delete h) r i m = go (eqb (refusalOf r) 0) refl m
         let n = of-those (λ i. not (eqb (i .handle) h)) held m in
         inl (n .0, λ t. eqb-false (i .handle) h (not-true _ (n .1)) (sym (same-handle h (i .handle) (t .0))))
     go false e m = inl (m, λ t. eqb-false (refusalOf r) 0 e (omega (arith, t .1)))
-one→ held (locate ps as′) r i m = inl (m, λ t. looked ps as′ (i .handle) (t .0))
-one→ held (show x y) r i m = inl (m, λ t. showed x y (i .handle) (t .0))
+one→ held (locate ps as′) r i m = inl (m, λ t. no-delete refl (t .0))
+one→ held (show x y) r i m = inl (m, λ t. no-delete refl (t .0))
+one→ held (window w slots) r i m = inl (m, λ t. no-delete refl (t .0))
 
 one← : (held : List Held) (c : Call) (r : Answer) (i : Held)
     → (List·Memᴰ i held × (Took (record { call = c; answer = r }) (i .handle) → ⊥)) ⊎ Gave (record { call = c; answer = r }) i
@@ -81,11 +89,13 @@ one← held (delete h) r i (inl (m, f)) = go (eqb (refusalOf r) 0) refl
     go : (b : Bool) → eqb (refusalOf r) 0 ≡ b → List·Memᴰ i (if b then those (λ i. not (eqb (i .handle) h)) held else held)
     go true e = in-those (λ i. not (eqb (i .handle) h)) held m (ap not (ne-eqb (i .handle) h (λ q. f (ap delete (sym q), omega (arith, eqb-true (refusalOf r) 0 e)))))
     go false e = m
-one← held (delete h) r i (inr (e, f, d)) = absurd (not-both (i .line) h (sym e))
+one← held (delete h) r i (inr (e, f, d)) = absurd (no-insert refl e)
 one← held (locate ps as′) r i (inl (m, f)) = m
-one← held (locate ps as′) r i (inr (e, f, d)) = absurd (looked-in ps as′ (i .line) e)
+one← held (locate ps as′) r i (inr (e, f, d)) = absurd (no-insert refl e)
 one← held (show x y) r i (inl (m, f)) = m
-one← held (show x y) r i (inr (e, f, d)) = absurd (showed-in x y (i .line) e)
+one← held (show x y) r i (inr (e, f, d)) = absurd (no-insert refl e)
+one← held (window w slots) r i (inl (m, f)) = m
+one← held (window w slots) r i (inr (e, f, d)) = absurd (no-insert refl e)
 
 held→ : (log : List Heard) (held : List Held) (i : Held) → List·Memᴰ i (heldBy held log) → (List·Memᴰ i held × NeverTook log (i .handle)) ⊎ Stands i log
 unfolding heldBy

@@ -5,21 +5,24 @@ use mathlib.Core.Path.{_≡_, refl}
 use denote.Ref.{now}
 use Rattle.definitions.specs.Calls.{numberOf, startOf, insertOf, deleteOf}
 use Rattle.definitions.specs.Lookup.{locateOf, showOf}
+use Rattle.definitions.specs.Window.{windowOf}
 use Rattle.definitions.specs.Tree.{baseRule}
-use Rattle.tables.specs.Lent.{tables, Replies, Locates}
+use Rattle.tables.specs.Lent.{tables, Replies, Locates, Windows}
 use Rattle.map.specs.Promise.{HandsBack}
-use Rattle.host.specs.Numbers.{Tells, Answers}
+use Rattle.host.specs.Numbers.{Tells, Answers, Lists}
 use Rattle.map.proofs.start.Reads as start
 use Rattle.map.proofs.insert.Reads as insert
 use Rattle.map.proofs.delete.Reads as delete
 use Rattle.map.proofs.locate.Reads as locate
 use Rattle.map.proofs.show_leaf.Reads as show-leaf
 use Rattle.map.proofs.show_part.Reads as show-part
+use Rattle.map.proofs.window.Reads as window
 use Rattle.host.proofs.number.Reads as number
 use Rattle.host.proofs.boundary_map_start.Reads as c-start
 use Rattle.host.proofs.boundary_map_insert.Reads as c-insert
 use Rattle.host.proofs.boundary_map_delete.Reads as c-delete
 use Rattle.host.proofs.boundary_map_locate.Reads as c-locate
+use Rattle.host.proofs.boundary_map_window.Reads as c-window
 use Rattle.host.proofs.boundary_map_version.Reads as c-version
 
 -- ---- Nothing is asked
@@ -42,6 +45,9 @@ show-leaf-asks = refl
 show-part-asks : show-part.Asked ≡ λ κs a. Unit {0}
 show-part-asks = refl
 
+window-asks : window.Asked ≡ λ κs a. Unit {0}
+window-asks = refl
+
 number-asks : number.Asked ≡ λ κs a. Unit {0}
 number-asks = refl
 
@@ -56,6 +62,9 @@ c-delete-asks = refl
 
 c-locate-asks : c-locate.Asked ≡ λ κs a. Unit {0}
 c-locate-asks = refl
+
+c-window-asks : c-window.Asked ≡ λ κs a. Unit {0}
+c-window-asks = refl
 
 c-version-asks : c-version.Asked ≡ λ κs a. Unit {0}
 c-version-asks = refl
@@ -80,6 +89,9 @@ show-leaf-owes = refl
 show-part-owes : show-part.Post ≡ λ κs a r e. HandsBack r (a .1 .1 .0) (showOf baseRule (tables (now (a .0)) (now (a .1 .0)) (now (a .1 .1 .0))) (a .1 .1 .1 .0) (a .1 .1 .1 .1 .0))
 show-part-owes = refl
 
+window-owes : window.Post ≡ λ κs a r e. Windows r (now (e .1 .1 .1 .1 .0)) (windowOf baseRule (tables (now (a .0)) (now (a .1 .0)) (now (a .1 .1 .0))) (a .1 .1 .1 .0) (now (a .1 .1 .1 .1 .0)))
+window-owes = refl
+
 -- ---- What the C host is owed
 
 number-owes : number.Post ≡ λ κs a r e. r ≡ numberOf (a .0)
@@ -99,5 +111,10 @@ c-delete-owes = refl
 c-locate-owes : c-locate.Post ≡ λ κs a r e. Answers r (now (e .1 .1 .1 .1 .0)) (locateOf baseRule (tables (now (a .0)) (now (a .1 .0)) (now (a .1 .1 .0))) (now (a .1 .1 .1 .0)) (now (a .1 .1 .1 .1 .0)))
 c-locate-owes = refl
 
-c-version-owes : c-version.Post ≡ λ κs a r e. r ≡ 3000
+c-window-owes : c-window.Post ≡ λ κs a r e. Lists r (now (e .1 .1 .1 .1 .1 .1 .1 .0))
+    (windowOf baseRule (tables (now (a .0)) (now (a .1 .0)) (now (a .1 .1 .0)))
+    (record { west = a .1 .1 .1 .0; south = a .1 .1 .1 .1 .0; east = a .1 .1 .1 .1 .1 .0; north = a .1 .1 .1 .1 .1 .1 .0 }) (now (a .1 .1 .1 .1 .1 .1 .1 .0)))
+c-window-owes = refl
+
+c-version-owes : c-version.Post ≡ λ κs a r e. r ≡ 4000
 c-version-owes = refl

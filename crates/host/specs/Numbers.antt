@@ -5,6 +5,7 @@ use Prim.Native.Nat.{ℕ, _+_, _*_}
 use Rattle.definitions.specs.Calls.{Reply, numberOf}
 use Rattle.definitions.specs.Lookup.{Located}
 use Rattle.definitions.specs.Tables.{Tables}
+use Rattle.definitions.specs.Window.{Windowed}
 use Rattle.tables.specs.Lent.{tables}
 
 -- the number, and the three tables
@@ -23,12 +24,23 @@ pub record Counted : Type 0 where
 abbrev pub counted : Located → Counted
 counted y = record { number = numberOf (y .answer); answers = y .answers }
 
+-- the number, and the list of slots
+pub record Listed : Type 0 where
+  pub number : ℕ
+  pub slots : List ℕ
+
+abbrev pub listed : Windowed → Listed
+listed y = record { number = numberOf (y .answer); slots = y .slots }
+
 abbrev pub Tells : ℕ → List ℕ → List ℕ → List ℕ → Reply → Type 0
 Tells r lines nodes listings y = (record { number = r; after = tables lines nodes listings }) ≡ numbered y
 
 abbrev pub Answers : ℕ → List ℕ → Located → Type 0
 Answers r answers y = (record { number = r; answers = answers }) ≡ counted y
 
--- version 0.3.0, as major, minor and patch
+abbrev pub Lists : ℕ → List ℕ → Windowed → Type 0
+Lists r slots y = (record { number = r; slots = slots }) ≡ listed y
+
+-- version 0.4.0, as major, minor and patch
 abbrev pub version : ℕ
-version = 0 * 1000000 + 3 * 1000 + 0
+version = 0 * 1000000 + 4 * 1000 + 0

@@ -1,12 +1,14 @@
-// The C boundary: start, insert, delete and locate on numbers and lent slices. Each gives one 64-bit number. And the version.
+// The C boundary: start, insert, delete, locate and window on numbers and lent slices. Each gives one 64-bit number. And the version.
 use definitions::Answer;
 use definitions::Given;
+use definitions::Window;
 ghost use mathlib.Core.Path.{_≡_};
 ghost use Rattle.definitions.specs.Tree.{baseRule};
 ghost use Rattle.definitions.specs.Calls.{numberOf, startOf, insertOf, deleteOf};
 ghost use Rattle.definitions.specs.Lookup.{locateOf};
+ghost use Rattle.definitions.specs.Window.{windowOf};
 ghost use Rattle.tables.specs.Lent.{tables};
-ghost use Rattle.host.specs.Numbers.{Tells, Answers, version};
+ghost use Rattle.host.specs.Numbers.{Tells, Answers, Lists, version};
 
 // refusal x 4,294,967,296 + detail
 pub fn number(a: Answer) -> u64
@@ -22,6 +24,8 @@ pub fn number(a: Answer) -> u64
         Answer::NoSlot => 25769803776,
         Answer::NoRoom => 30064771072,
         Answer::UnknownHandle => 34359738368,
+        Answer::BadWindow => 38654705664,
+        Answer::ListShort => 42949672960,
     }
 }
 
@@ -87,10 +91,33 @@ pub extern "C" fn boundary_map_locate(
     number(map::locate(lines, nodes, listings, points, answers))
 }
 
+#[no_mangle]
+pub extern "C" fn boundary_map_window(
+    lines: &[u16],
+    nodes: &[u16],
+    listings: &[u16],
+    west: u16,
+    south: u16,
+    east: u16,
+    north: u16,
+    slots: &mut [u16],
+) -> u64
+    ensures { λ r. ⌜ Lists r (now (slots .exit))
+        (windowOf baseRule (tables (now (lines .entry)) (now (nodes .entry)) (now (listings .entry))) (record { west = west; south = south; east = east; north = north }) (now (slots .entry))) ⌝ }
+{
+    let w = Window {
+        west,
+        south,
+        east,
+        north,
+    };
+    number(map::window(lines, nodes, listings, w, slots))
+}
+
 // what the header compares itself with: they are two files, and link at any two versions
 #[no_mangle]
 pub extern "C" fn boundary_map_version() -> u32
     ensures { λ r. ⌜ r ≡ version ⌝ }
 {
-    3000
+    4000
 }

@@ -14,7 +14,6 @@ use Rattle.algebra.specs.Tests.{both→}
 use Rattle.definitions.specs.declared.Point.{Point}
 use Rattle.definitions.specs.Shape.{gridPoint}
 use Rattle.definitions.specs.Lookup.{answerAt, answerTo, answersTo}
-use Rattle.tables.specs.Slots.{LiveFront}
 use Rattle.column.specs.Asked.{OnGrid}
 
 -- ---- One pair
@@ -59,8 +58,3 @@ module _ (lines points : List ℕ) where
   unfolding answersTo
   answered-end answers i h k r =
       sym (r ∙ ap (λ (l : List ℕ). take i answers ++ answersTo lines l) (drop-of-length-le points k) ∙ append-nil (take i answers) ∙ take-all i answers h)
-
--- ---- The live slots, at the front of a table
-
-pub front-fits : {lines before after : List ℕ} {r : ℕ} → LiveFront lines before after r → r ≤ length after
-front-fits {lines} {before} {after} {r} h = omega (arith, h .count, simp length-take at (ap length (h .front)))

@@ -1,15 +1,17 @@
--- Start, delete and locate as walks through their refusals: what each replies where the tests so far came out so.
+-- Start, delete, locate and window as walks through their refusals: what each replies where the tests so far came out so.
 use mathlib.Core.Path.{_≡_, refl}
 use mathlib.Core.Bool.{true, false, _&&_}
 use mathlib.Core.List.{List}
 use Prim.Native.Nat.{ℕ, _*_, _/_}
 use lib.Dec.{eqb}
 use lib.ListN.{length}
-use Rattle.definitions.specs.declared.Answer.the-variants.{Done, Lengths, Damaged, UnknownHandle}
+use Rattle.definitions.specs.declared.Window.{Window}
+use Rattle.definitions.specs.declared.Answer.the-variants.{Done, Lengths, Damaged, UnknownHandle, BadWindow}
 use Rattle.definitions.specs.Tree.{Rule}
 use Rattle.definitions.specs.Tables.{Tables, lengthsFit, sound}
 use Rattle.definitions.specs.Calls.{reply, cleared, startOf, known, freed, rebuilt, deleteOf}
 use Rattle.definitions.specs.Lookup.{answersTo, locateOf}
+use Rattle.definitions.specs.Window.{windowed, windowFits, areaIn, slotsIn, listedIn, windowOf}
 
 pub start-1 : (t : Tables) → lengthsFit t ≡ false → startOf t ≡ reply Lengths t
 unfolding startOf
@@ -52,3 +54,22 @@ module _ (rule : Rule) (t : Tables) where
       pub locate-0 : sound rule t ≡ true → locateOf rule t points answers ≡ record { answer = Done 0; answers = answersTo (t .lines) points }
       unfolding locateOf
       locate-0 e = rw (fit, e) refl
+
+  module _ (w : Window) (slots : List ℕ) where
+    pub window-1 : lengthsFit t ≡ false → windowOf rule t w slots ≡ windowed Lengths slots
+    unfolding windowOf
+    window-1 e = rw e refl
+
+    module _ (fit : lengthsFit t ≡ true) where
+      pub window-2 : sound rule t ≡ false → windowOf rule t w slots ≡ windowed Damaged slots
+      unfolding windowOf
+      window-2 e = rw (fit, e) refl
+
+      module _ (ok : sound rule t ≡ true) where
+        pub window-9 : windowFits w ≡ false → windowOf rule t w slots ≡ windowed BadWindow slots
+        unfolding windowOf
+        window-9 e = rw (fit, ok, e) refl
+
+        pub window-0 : windowFits w ≡ true → windowOf rule t w slots ≡ listedIn (slotsIn (t .lines) (areaIn w)) slots
+        unfolding windowOf
+        window-0 e = rw (fit, ok, e) refl

@@ -7,7 +7,8 @@ use Rattle.definitions.specs.declared.Answer.{Answer}
 use Rattle.definitions.specs.declared.Shown.{Shown}
 use Rattle.definitions.specs.Calls.{Reply}
 use Rattle.definitions.specs.Lookup.{Located, Showing}
-use Rattle.tables.specs.Lent.{Replies, Locates}
+use Rattle.definitions.specs.Window.{Windowed}
+use Rattle.tables.specs.Lent.{Replies, Locates, Windows}
 use Rattle.map.specs.Promise.{HandsBack}
 
 pub replies-unique : {a b c a′ b′ c′ : List ℕ} (y : Reply) {r r′ : Answer} → Replies r a b c y → Replies r′ a′ b′ c′ y → (r ≡ r′) × (a ≡ a′) × (b ≡ b′) × (c ≡ c′)
@@ -17,6 +18,9 @@ replies-unique y p q =
 
 pub locates-unique : {us vs : List ℕ} (y : Located) {r r′ : Answer} → Locates r us y → Locates r′ vs y → (r ≡ r′) × (us ≡ vs)
 locates-unique y p q = let e = p ∙ sym q in (ap (λ (x : Located). x .answer) e, ap (λ (x : Located). x .answers) e)
+
+pub windows-unique : {us vs : List ℕ} (y : Windowed) {r r′ : Answer} → Windows r us y → Windows r′ vs y → (r ≡ r′) × (us ≡ vs)
+windows-unique y p q = let e = p ∙ sym q in (ap (λ (x : Windowed). x .answer) e, ap (λ (x : Windowed). x .slots) e)
 
 module _ (y : Showing) where
   pub shown-unique : {r r′ : Shown} → r ≡ y .told → r′ ≡ y .told → r ≡ r′

@@ -1,10 +1,11 @@
-// The public calls: start, insert, delete, locate and show leaf. None has a requires.
+// The public calls: start, insert, delete, locate, show leaf and window. None has a requires.
 use changes::insert_sound;
 use changes::take_line;
 use definitions::Answer;
 use definitions::Given;
 use definitions::Half;
 use definitions::Shown;
+use definitions::Window;
 use lookup::answer_all;
 use showing::Asked;
 use showing::leaf_asked;
@@ -13,11 +14,14 @@ use tables::clear;
 use tables::known;
 use tables::lengths_fit;
 use tables::slot_of;
+use window::list_window;
+use window::window_fits;
 ghost use mathlib.Core.Path.{_≡_};
 ghost use Rattle.definitions.specs.Tree.{baseRule};
 ghost use Rattle.definitions.specs.Calls.{startOf, insertOf, deleteOf};
 ghost use Rattle.definitions.specs.Lookup.{locateOf, showOf};
-ghost use Rattle.tables.specs.Lent.{tables, Replies, Locates};
+ghost use Rattle.definitions.specs.Window.{windowOf};
+ghost use Rattle.tables.specs.Lent.{tables, Replies, Locates, Windows};
 ghost use Rattle.map.specs.Promise.{HandsBack};
 
 pub fn start(lines: &mut [u16], nodes: &mut [u16], listings: &mut [u16]) -> Answer
@@ -119,4 +123,25 @@ pub fn show_part<'a>(lines: &[u16], nodes: &[u16], listings: &'a [u16], x: u16, 
     let first = leaf.first;
     let end = first + leaf.count;
     &listings[first..end]
+}
+
+pub fn window(
+    lines: &[u16],
+    nodes: &[u16],
+    listings: &[u16],
+    w: Window,
+    slots: &mut [u16],
+) -> Answer
+    ensures { λ r. ⌜ Windows r (now (slots .exit)) (windowOf baseRule (tables (now (lines .entry)) (now (nodes .entry)) (now (listings .entry))) w (now (slots .entry))) ⌝ }
+{
+    if !lengths_fit(lines, nodes, listings) {
+        return Answer::Lengths;
+    }
+    if !is_sound(lines, nodes, listings) {
+        return Answer::Damaged;
+    }
+    if !window_fits(w) {
+        return Answer::BadWindow;
+    }
+    list_window(lines, w, slots)
 }

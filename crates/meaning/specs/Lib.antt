@@ -22,3 +22,4 @@ pub mod Chain
 pub mod Stored
 pub mod SoundMeans
 pub mod OneLeaf
+pub mod Window

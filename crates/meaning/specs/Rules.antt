@@ -10,7 +10,7 @@ use Rattle.definitions.specs.declared.Point.{Point}
 use Rattle.algebra.specs.Lists.{in-those, of-those}
 use Rattle.algebra.specs.Tests.{no-path, both-ways}
 use Rattle.algebra.specs.Words.{those}
-use Rattle.definitions.specs.Shape.{Line, Block, meets, corners, leftOf, rightOf, isEnd}
+use Rattle.definitions.specs.Shape.{Line, Block, meetsArea, meets, corners, leftOf, rightOf, isEnd}
 use Rattle.definitions.specs.Tree.{endsOf, simple, Tree, leaf, divided, listed, block, tree, nodesOf, listingsOf, Rule, treeBy, baseRule}
 use Rattle.meaning.specs.Fair.{Sub, SameEnds, Within, Once, Fair, noLine, newLine}
 use Rattle.meaning.specs.Fewer.{sub-those, fewer-simple, Smaller, four-smaller, some-node, leaf-listings, covered, a-son, listings4, Simple, simple→, simple←, in-ends-a, in-ends-b}
@@ -29,7 +29,7 @@ unfolding treeBy
 by-divided rule lines n w s e = rw (e, treeBy) refl
 
 pub meets-ends : (k : Block) (l m : Line) → SameEnds l m → meets k l ≡ meets k m
-unfolding meets corners leftOf rightOf
+unfolding meets meetsArea corners leftOf rightOf
 meets-ends k l m e = λ i. meets k (record { slot = l .slot; a = e .0 i; b = e .1 i })
 
 pub isEnd-ends : (p : Point) (l m : Line) → SameEnds l m → isEnd p l ≡ isEnd p m

@@ -9,8 +9,8 @@ use lib.Signed.{_≤ℤ_, _<ℤ_, leZ-yes, ltZ-yes}
 use Rattle.algebra.specs.Order.{pos-inj}
 use Rattle.algebra.specs.Signs.{Is, pos-is, sub-is, add-is, neg-is, mul-is, shift-is, equal-of-zero, zero-of-equal}
 use Rattle.definitions.specs.declared.Point.{Point}
-use Rattle.definitions.specs.Shape.{Line, Block, east, north, minX, maxX, minY, maxY}
-use Rattle.definitions.specs.Meaning.{Spot, OnLine, InBlock, AtPoint, AtEnd, Meets, Conflicts}
+use Rattle.definitions.specs.Shape.{Line, Area, minX, maxX, minY, maxY}
+use Rattle.definitions.specs.Meaning.{Spot, OnLine, InArea, AtPoint, AtEnd, MeetsArea, Conflicts}
 use Rattle.plane.specs.Segments.{turnAt-is, straight-of}
 
 -- ---- The same words over ℤ
@@ -33,11 +33,11 @@ pub record OnLineWhole (s : WholeSpot) (l : Line) : Type 0 where
   pub fromSouth : (pos (minY l) *ℤ s .Z) ≤ℤ s .Y
   pub toNorth : s .Y ≤ℤ (pos (maxY l) *ℤ s .Z)
 
-pub record InBlockWhole (s : WholeSpot) (k : Block) : Type 0 where
+pub record InAreaWhole (s : WholeSpot) (k : Area) : Type 0 where
   pub fromWest : (pos (k .west) *ℤ s .Z) ≤ℤ s .X
-  pub toEast : s .X ≤ℤ (pos (east k) *ℤ s .Z)
+  pub toEast : s .X ≤ℤ (pos (k .east) *ℤ s .Z)
   pub fromSouth : (pos (k .south) *ℤ s .Z) ≤ℤ s .Y
-  pub toNorth : s .Y ≤ℤ (pos (north k) *ℤ s .Z)
+  pub toNorth : s .Y ≤ℤ (pos (k .north) *ℤ s .Z)
 
 pub record AtPointWhole (s : WholeSpot) (p : Point) : Type 0 where
   pub sameX : s .X ≡ pos (p .x .0) *ℤ s .Z
@@ -46,8 +46,8 @@ pub record AtPointWhole (s : WholeSpot) (p : Point) : Type 0 where
 abbrev pub AtEndWhole : WholeSpot → Line → Type 0
 AtEndWhole s l = AtPointWhole s (l .a) ⊎ AtPointWhole s (l .b)
 
-abbrev pub MeetsWhole : Block → Line → Type 0
-MeetsWhole k l = (s : WholeSpot) × OnLineWhole s l × InBlockWhole s k
+abbrev pub MeetsWhole : Area → Line → Type 0
+MeetsWhole k l = (s : WholeSpot) × OnLineWhole s l × InAreaWhole s k
 
 abbrev pub ConflictsWhole : Line → Line → Type 0
 ConflictsWhole l m = (s : WholeSpot) × OnLineWhole s l × OnLineWhole s m × ¬ (AtEndWhole s l × AtEndWhole s m)
@@ -114,19 +114,19 @@ module _ {s : WholeSpot} {t : Spot} (e : Same s t) where
     },
   )
 
-  block-same : (k : Block) → InBlockWhole s k ↔ InBlock t k
-  block-same k = (
+  area-same : (k : Area) → InAreaWhole s k ↔ InArea t k
+  area-same k = (
     λ i. record {
       fromWest = from-same (e .atZ) (e .atX) (k .west) .0 (i .fromWest);
-      toEast = to-same (e .atZ) (e .atX) (east k) .0 (i .toEast);
+      toEast = to-same (e .atZ) (e .atX) (k .east) .0 (i .toEast);
       fromSouth = from-same (e .atZ) (e .atY) (k .south) .0 (i .fromSouth);
-      toNorth = to-same (e .atZ) (e .atY) (north k) .0 (i .toNorth);
+      toNorth = to-same (e .atZ) (e .atY) (k .north) .0 (i .toNorth);
     },
     λ i. record {
       fromWest = from-same (e .atZ) (e .atX) (k .west) .1 (i .fromWest);
-      toEast = to-same (e .atZ) (e .atX) (east k) .1 (i .toEast);
+      toEast = to-same (e .atZ) (e .atX) (k .east) .1 (i .toEast);
       fromSouth = from-same (e .atZ) (e .atY) (k .south) .1 (i .fromSouth);
-      toNorth = to-same (e .atZ) (e .atY) (north k) .1 (i .toNorth);
+      toNorth = to-same (e .atZ) (e .atY) (k .north) .1 (i .toNorth);
     },
   )
 
@@ -140,15 +140,15 @@ module _ {s : WholeSpot} {t : Spot} (e : Same s t) where
   end-same l = (⊎-map (point-same (l .a) .0) (point-same (l .b) .0), ⊎-map (point-same (l .a) .1) (point-same (l .b) .1))
 
 pub record NothingLost : Type 0 where
-  pub meeting : (k : Block) (l : Line) → MeetsWhole k l ↔ Meets k l
+  pub meeting : (k : Area) (l : Line) → MeetsWhole k l ↔ MeetsArea k l
   pub crossing : (l m : Line) → ConflictsWhole l m ↔ Conflicts l m
 
 pub nothing-lost : NothingLost
 nothing-lost =
     record {
       meeting = λ k l. (
-        λ (s, o, i). let (t, e) = natural s l o in (t, line-same e l .0 o, block-same e k .0 i),
-        λ (t, o, i). let (s, e) = whole t in (s, line-same e l .1 o, block-same e k .1 i),
+        λ (s, o, i). let (t, e) = natural s l o in (t, line-same e l .0 o, area-same e k .0 i),
+        λ (t, o, i). let (s, e) = whole t in (s, line-same e l .1 o, area-same e k .1 i),
       );
       crossing = λ l m. (
         λ (s, ol, om, f). let (t, e) = natural s l ol in (t, line-same e l .0 ol, line-same e m .0 om, λ b. f (end-same e l .1 (b .0), end-same e m .1 (b .1))),

@@ -13,6 +13,7 @@ use Rattle.definitions.specs.Calls.{Reply}
 use Rattle.definitions.specs.Lookup.{Located}
 use Rattle.definitions.specs.Tables.{Tables, lengthsFit, sound}
 use Rattle.definitions.specs.Tree.{Rule}
+use Rattle.definitions.specs.Window.{Windowed}
 
 abbrev pub tables : List ℕ → List ℕ → List ℕ → Tables
 tables lines nodes listings = record { lines = lines; nodes = nodes; listings = listings }
@@ -24,6 +25,10 @@ Replies r lines nodes listings y = (record { answer = r; after = tables lines no
 -- the answer and every entry of the answer list afterwards are those of locate
 abbrev pub Locates : Answer → List ℕ → Located → Type 0
 Locates r answers y = (record { answer = r; answers = answers }) ≡ y
+
+-- the answer and every entry of the list afterwards are those of window
+abbrev pub Windows : Answer → List ℕ → Windowed → Type 0
+Windows r slots y = (record { answer = r; slots = slots }) ≡ y
 
 -- a map that has passed refusals 1 and 2
 pub record Passed (rule : Rule) (lines nodes listings : List ℕ) : Type 0 where

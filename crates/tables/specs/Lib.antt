@@ -1,4 +1,5 @@
 pub mod Rows
 pub mod Slots
+pub mod Gathered
 pub mod Sound
 pub mod Lent

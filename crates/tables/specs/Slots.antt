@@ -1,11 +1,11 @@
--- The lowest slot that passes a test, as a search by rising slots finds it; and the live slots laid out in a table.
+-- The lowest slot that passes a test, as a search by rising slots finds it; and how many live slots there are.
 use mathlib.Core.Path.{_≡_, refl, sym, ap, _∙_}
 use mathlib.Core.Bool.{Bool, true, false}
 use mathlib.Core.List.{List, [], _∷_}
 use Prim.Native.Nat.{ℕ, suc, _+_, _-_, _*_, _/_, _≤_, _<_}
 use native.Mathlib.Numerals.{add-one}
 use native.Mathlib.Omega.{arith}
-use lib.ListN.{length, take, drop}
+use lib.ListN.{length}
 use Rattle.algebra.specs.Words.{those, upFrom}
 use Rattle.algebra.specs.Lists.{those-yes, those-no, those-length, upFrom-length}
 use Rattle.definitions.specs.Tables.{isLive, slotsOf, liveSlots}
@@ -24,12 +24,6 @@ first-at (u ∷ more) {s} e = let q : u ≡ s = cc in (more, ap (λ (n : ℕ). n
 pub first-none : (l : List ℕ) → firstSlotOf l ≡ None → l ≡ []
 first-none [] e = refl
 first-none (u ∷ more) e = let z : _≡_ {A = ℕ} 0 1 = cc in absurd (omega arith)
-
--- the r live slots stand at the front of a table, and the rest is as before
-pub record LiveFront (lines before after : List ℕ) (r : ℕ) : Type 0 where
-  pub count : r ≡ length (liveSlots lines)
-  pub front : take r after ≡ liveSlots lines
-  pub rest : drop r after ≡ drop r before
 
 -- ---- a search by rising slots: those of the n slots that pass are those from s on
 module _ (p : ℕ → Bool) (n : ℕ) where

@@ -11,13 +11,14 @@ ghost use lib.Dec.{eqb};
 ghost use lib.ListN.{length, replicate};
 ghost use Rattle.algebra.specs.Words.{every, sameList, over};
 ghost use Rattle.definitions.specs.Shape.{gridPoint, samePoint};
-ghost use Rattle.definitions.specs.Tables.{lengthsFit, slotsOf, liveSound, emptySound, slotSound};
+ghost use Rattle.definitions.specs.Tables.{lengthsFit, slotsOf, liveSlots, liveSound, emptySound, slotSound};
 ghost use Rattle.definitions.specs.Lookup.{upperLabel};
 ghost use Rattle.definitions.specs.Calls.{withSlot, allOnGrid, noLength, conflicting, freeSlots};
 ghost use Rattle.definitions.specs.Calls.{known as knownIn};
 ghost use Rattle.geometry.specs.Means.{lineOf};
 ghost use Rattle.tables.specs.Rows.{rowAt, entriesOf, rowOf, emptiedRow, isFree, OnMap, IsLine};
-ghost use Rattle.tables.specs.Slots.{firstSlotOf, LiveFront};
+ghost use Rattle.tables.specs.Gathered.{Front};
+ghost use Rattle.tables.specs.Slots.{firstSlotOf};
 ghost use Rattle.tables.specs.Sound.{hindersAt, Tested};
 
 // The next free places of the node table and the listing table.
@@ -231,7 +232,7 @@ pub fn slots_sound(lines: &[u16]) -> bool
 // The live slots, rising, at the front of `to`, and how many.
 pub fn live_slots(lines: &[u16], to: &mut [u16]) -> usize
     requires { ⌜ (length (now lines) ≤ 8192) × (length (now lines) ≤ 8 * length (now to)) ⌝ }
-    ensures { λ r. ⌜ LiveFront (now (lines .entry)) (now (to .entry)) (now (to .exit)) r ⌝ }
+    ensures { λ r. ⌜ Front (liveSlots (now (lines .entry))) (now (to .entry)) (now (to .exit)) r ⌝ }
 {
     let n = lines.len() / 8;
     let mut k: usize = 0;

@@ -9,11 +9,12 @@ use lib.Seq.{slice}
 use Rattle.algebra.specs.Signs.{zero-of-equal}
 use Rattle.definitions.specs.Meaning.{Spot, OnLine}
 use Rattle.definitions.specs.Shape.{Line, Block, wholeMap, meets}
-use Rattle.definitions.specs.Tables.{lineAt, liveLines}
+use Rattle.definitions.specs.Tables.{lineAt, liveLines, liveSlots}
 use Rattle.definitions.specs.Tree.{Tree, treeBy, tree, baseRule, nodesOf, listingsOf}
 use Rattle.plane.specs.Meeting.{meets-iff, turnAt-is}
 use Rattle.tables.specs.Rows.{OnMap}
-use Rattle.tables.specs.Slots.{LiveFront, live-few}
+use Rattle.tables.specs.Gathered.{Front}
+use Rattle.tables.specs.Slots.{live-few}
 use Rattle.tree.specs.declared.Built.{Built}
 use Rattle.tree.specs.Builds.{Grown, Ready, GoodTable, origin, treeFor, blockNodes, blockListings, TreeBuilt}
 
@@ -34,7 +35,7 @@ in-map lines s g =
     )
 
 -- ---- the whole build, from a list of slots w with the n live ones in front
-module _ {lines w₀ w : List ℕ} {n : ℕ} (table : GoodTable lines) (front : LiveFront lines w₀ w n) {k : Block} (whole : k ≡ wholeMap) where
+module _ {lines w₀ w : List ℕ} {n : ℕ} (table : GoodTable lines) (front : Front (liveSlots lines) w₀ w n) {k : Block} (whole : k ≡ wholeMap) where
   pub start-ready : 57 * 1024 ≤ length w → (N L : ℕ) → Ready lines w (record { from = 0; to = n; free = n }) k 14 origin N L
   start-ready len N L =
       let few = live-few lines in

@@ -41,6 +41,12 @@ enum-told-6 c = search needs
 enum-told-7 : tie.Need-enum-told-7
 enum-told-7 c = search needs
 
+enum-told-8 : tie.Need-enum-told-8
+enum-told-8 c = search needs
+
+enum-told-9 : tie.Need-enum-told-9
+enum-told-9 c = search needs
+
 returns : tie.Need-returns
 returns c = done (c .before .a .given .1)
 
@@ -68,6 +74,12 @@ returns-8 c = sym (ap numberOf (c .enum-told6 .given .1))
 returns-9 : tie.Need-returns-9
 returns-9 c = sym (ap numberOf (c .enum-told7 .given .1))
 
+returns-10 : tie.Need-returns-10
+returns-10 c = sym (ap numberOf (c .enum-told8 .given .1))
+
+returns-11 : tie.Need-returns-11
+returns-11 c = sym (ap numberOf (c .enum-told9 .given .1))
+
 pub number-spec : {M : Type 1} → statement M
 number-spec =
     tie.close
@@ -84,6 +96,8 @@ number-spec =
     enum-told-5
     enum-told-6
     enum-told-7
+    enum-told-8
+    enum-told-9
     returns
     returns-2
     returns-3
@@ -92,4 +106,6 @@ number-spec =
     returns-6
     returns-7
     returns-8
-    returns-9)
+    returns-9
+    returns-10
+    returns-11)

@@ -3,7 +3,7 @@ use native.Mathlib.Omega.{arith}
 use lib.ListN.{length-take}
 use borrow.Author.Needs.{needs}
 use Rattle.column.specs.Walks.{mapped-standing}
-use Rattle.lookup.proofs.Answering.{front-fits}
+use Rattle.tables.specs.Gathered.{front-fits}
 use Rattle.lookup.proofs.answer_all.Statement.{statement}
 use Rattle.lookup.proofs.answer_all.Tie as tie
 

@@ -7,7 +7,7 @@ use borrow.Author.Needs.{needs}
 use Rattle.algebra.specs.Words.{those, upFrom, over}
 use Rattle.definitions.specs.Tables.{isLive, liveSlots, slotsOf}
 use Rattle.tables.specs.Rows.{live-at}
-use Rattle.tables.proofs.Loops.{Laid, laid-in, laid-out, laid-count, laid-front, laid-rest}
+use Rattle.tables.specs.Gathered.{Laid, laid-in, laid-out, laid-all}
 use Rattle.tables.proofs.live_slots.Statement.{statement}
 use Rattle.tables.proofs.live_slots.Tie as tie
 
@@ -67,11 +67,7 @@ returns : tie.Need-returns Inv-loop μ-loop
 unfolding liveSlots slotsOf
 returns c = let l = c .before in let s = l .before .before .before in
     let all : l .loop .s ≡ length (s .args .lines .now) / 8 = omega arith in let room : length (s .args .lines .now) / 8 ≤ length (s .args .to .now) = omega arith in
-    record {
-      count = laid-count _ _ _ _ _ (l .loop .inv .2) _ all room;
-      front = laid-front _ _ _ _ _ (l .loop .inv .2) _ all room;
-      rest = laid-rest _ _ _ _ _ (l .loop .inv .2) _ all room;
-    }
+    laid-all _ _ _ _ _ (l .loop .inv .2) _ all room
 
 pub live-slots-spec : {M : Type 1} → statement M
 live-slots-spec =

@@ -1,0 +1,4 @@
+pub mod Means
+pub mod Parts
+pub mod Seen
+pub mod Listed
