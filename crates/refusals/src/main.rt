@@ -15,6 +15,7 @@ use steps::bench::set_node;
 use steps::bench::show;
 use steps::bench::start;
 use steps::bench::tree;
+use steps::bench::view;
 use steps::tools::end;
 
 // Most cases start from the line from corner to corner: 5 nodes, 4 listings, all of slot 0.
@@ -220,6 +221,31 @@ fn unknown() {
     tables(b);
 }
 
+// Inverted each way, and a coordinate off the grid, before the list is asked for; damage comes first. The list keeps its 7.
+fn bad_window() {
+    let mut slots = [7u16; 1];
+    let mut none = [0u16; 0];
+    let b = diagonal(b"9 bad window");
+    view(b, 9, 0, 8, 16383, &mut slots);
+    view(b, 0, 9, 16383, 8, &mut slots);
+    view(b, 0, 0, 16384, 16383, &mut none);
+    view(b, 0, 16384, 16383, 16384, &mut none);
+    end();
+    let b = set_node(diagonal(b"2 before 9"), 1, 0);
+    view(b, 9, 0, 8, 16383, &mut slots);
+    end();
+}
+
+// Two lines in the window, and room for one; where one is in it, the list does.
+fn short_list() {
+    let mut slots = [7u16; 1];
+    let b = diagonal(b"10 list short");
+    let b = add(b, 0, 5, 0, 9);
+    view(b, 0, 0, 16383, 16383, &mut slots);
+    view(b, 0, 6, 3, 9, &mut slots);
+    end();
+}
+
 // Slot 0 was freed at the last generation: slot 1 is taken.
 fn retired() {
     let b = case(b"a retired slot");
@@ -283,6 +309,8 @@ fn main() {
     no_slot();
     no_room();
     unknown();
+    bad_window();
+    short_list();
     retired();
     used_again();
     started_again();

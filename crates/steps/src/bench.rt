@@ -1,6 +1,7 @@
 // The tables of a case, by value, with how many entries of each are lent. A step takes them and hands them back.
 use crate::tools::all_answers;
 use crate::tools::bar;
+use crate::tools::entries;
 use crate::tools::left_over;
 use crate::tools::part;
 use crate::tools::set_entry;
@@ -9,6 +10,7 @@ use crate::tools::tell;
 use crate::tools::word;
 use definitions::Answer;
 use definitions::Given;
+use definitions::Window;
 ghost use Prim.Native.Nat.{_≤_};
 
 // Each table one entry or slot longer than may be lent.
@@ -196,6 +198,45 @@ pub fn look(b: Bench, points: &[u16], answers: &mut [u32]) {
         answers,
     );
     all_answers(answers);
+}
+
+fn view_on_parts(
+    lines: &[u16],
+    nodes: &[u16],
+    listings: &[u16],
+    l: usize,
+    n: usize,
+    m: usize,
+    w: Window,
+    slots: &mut [u16],
+) {
+    let l = at_most(l, lines.len());
+    let n = at_most(n, nodes.len());
+    let m = at_most(m, listings.len());
+    tell(map::window(&lines[..l], &nodes[..n], &listings[..m], w, slots));
+}
+
+pub fn view(b: Bench, west: u16, south: u16, east: u16, north: u16, slots: &mut [u16]) {
+    let lines = b.lines;
+    let nodes = b.nodes;
+    let listings = b.listings;
+    bar();
+    view_on_parts(
+        &lines,
+        &nodes,
+        &listings,
+        b.line_entries,
+        b.node_entries,
+        b.listing_entries,
+        Window {
+            west,
+            south,
+            east,
+            north,
+        },
+        slots,
+    );
+    entries(slots, 0, slots.len());
 }
 
 pub fn set_line(b: Bench, i: usize, v: u16) -> Bench {
