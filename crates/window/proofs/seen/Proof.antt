@@ -2,7 +2,7 @@ use mathlib.Core.Path.{sym, ap, ap₂, _∙_}
 use native.Mathlib.Omega.{arith}
 use borrow.Author.Needs.{needs}
 use Rattle.definitions.specs.Tables.{lineAt, isLive}
-use Rattle.definitions.specs.Shape.{Line, meetsArea}
+use Rattle.definitions.specs.Shape.{meetsArea}
 use Rattle.geometry.specs.Means.{lineFrom}
 use Rattle.tables.specs.Rows.{entriesOf}
 use Rattle.tables.specs.Sound.{on-map}
