@@ -110,8 +110,8 @@ pub data Unknown (lines : List ℕ) (h : ℕ) : Type 0 where
 -- ---- 9 Bad window: a coordinate off the grid, or an inverted rectangle
 pub data WrongWindow (w : Window) : Type 0 where
   offGrid : (16383 < w .west) ⊎ (16383 < w .south) ⊎ (16383 < w .east) ⊎ (16383 < w .north) → WrongWindow w
-  westOfEast : w .east < w .west → WrongWindow w
-  southOfNorth : w .north < w .south → WrongWindow w
+  invertedX : w .east < w .west → WrongWindow w
+  invertedY : w .north < w .south → WrongWindow w
 
 -- ---- 10 List short
 

@@ -21,18 +21,18 @@ use Rattle.meaning.specs.Chain.{Each, chain→, chain-fails}
 use Rattle.meaning.specs.Window.{one-list, window-iff}
 use Rattle.history.specs.Cascade.{tested, gives, Came, kept, made, plain, detailed, alone}
 use Rattle.history.specs.Conditions.{wrong-means, unsound-means}
-use Rattle.history.specs.Refusals.{None, WrongLengths, Unsound, WrongWindow, offGrid, westOfEast, southOfNorth, Number, TooShort, FrontShows, WindowExact, windowTests}
+use Rattle.history.specs.Refusals.{None, WrongLengths, Unsound, WrongWindow, offGrid, invertedX, invertedY, Number, TooShort, FrontShows, WindowExact, windowTests}
 
 -- ---- 9
 module _ (w : Window) where
   abbrev window-tests : List Bool
   window-tests = onGrid (w .south) ∷ onGrid (w .east) ∷ onGrid (w .north) ∷ leb (w .west) (w .east) ∷ leb (w .south) (w .north) ∷ []
 
-  pub window-means : (not (windowFits w) ≡ true) ↔ WrongWindow w
+  window-means : (not (windowFits w) ≡ true) ↔ WrongWindow w
   unfolding windowFits
   window-means = (
     λ e. chain-fails (onGrid (w .west)) window-tests (not-true (windowFits w) e) (λ f. offGrid (inl (leb-false _ _ f)))
-        (λ f. offGrid (inr (inl (leb-false _ _ f))), (λ f. offGrid (inr (inr (inl (leb-false _ _ f)))), (λ f. offGrid (inr (inr (inr (leb-false _ _ f)))), (λ f. westOfEast (leb-false _ _ f), (λ f. southOfNorth (leb-false _ _ f), tt))))),
+        (λ f. offGrid (inr (inl (leb-false _ _ f))), (λ f. offGrid (inr (inr (inl (leb-false _ _ f)))), (λ f. offGrid (inr (inr (inr (leb-false _ _ f)))), (λ f. invertedX (leb-false _ _ f), (λ f. invertedY (leb-false _ _ f), tt))))),
     λ h. ap not (false-by (windowFits w) (λ e. back h (chain→ (onGrid (w .west)) window-tests e))),
   )
     where
@@ -41,8 +41,8 @@ module _ (w : Window) where
       back (offGrid (inr (inl h))) e = omega (arith, leb-true (w .south) 16383 (e .1 .0))
       back (offGrid (inr (inr (inl h)))) e = omega (arith, leb-true (w .east) 16383 (e .1 .1 .0))
       back (offGrid (inr (inr (inr h)))) e = omega (arith, leb-true (w .north) 16383 (e .1 .1 .1 .0))
-      back (westOfEast h) e = omega (arith, leb-true (w .west) (w .east) (e .1 .1 .1 .1 .0))
-      back (southOfNorth h) e = omega (arith, leb-true (w .south) (w .north) (e .1 .1 .1 .1 .1 .0))
+      back (invertedX h) e = omega (arith, leb-true (w .west) (w .east) (e .1 .1 .1 .1 .0))
+      back (invertedY h) e = omega (arith, leb-true (w .south) (w .north) (e .1 .1 .1 .1 .1 .0))
 
 -- ---- 10
 number-only : (lines : List ℕ) (w : Window) (n m : ℕ) → Number lines w n → Number lines w m → n ≡ m
@@ -52,8 +52,8 @@ module _ (lines : List ℕ) (w : Window) (fits : ¬ WrongWindow w) where
   abbrev slots : List ℕ
   slots = slotsIn lines (areaIn w)
 
-  pub in-window : InWindow lines w slots
-  in-window = window-iff lines w (not-more (λ h. fits (westOfEast h))) (not-more (λ h. fits (southOfNorth h))) slots .0 refl
+  in-window : InWindow lines w slots
+  in-window = window-iff lines w (not-more (λ h. fits (invertedX h))) (not-more (λ h. fits (invertedY h))) slots .0 refl
 
   number : Number lines w (length slots)
   number = (slots, in-window, refl)
