@@ -70,9 +70,20 @@ fn points() {
     end();
 }
 
+// Slot 3 passes the south-east and the north-west corner by less than half a step; and a step on.
+fn near() {
+    let b = drawn(b"a corner of the window beside a line");
+    seen(b, 0, 1001, 16, 1500);
+    seen(b, 0, 1001, 17, 1500);
+    seen(b, 33, 900, 100, 1002);
+    seen(b, 32, 900, 100, 1002);
+    end();
+}
+
 pub fn all() {
     whole_map();
     corners();
     sides();
     points();
+    near();
 }

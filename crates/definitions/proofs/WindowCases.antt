@@ -53,6 +53,8 @@ pub record WindowCases : Type 0 where
   pub segment : seen 0 10000 16383 10000 ∷ asked 8000 0 8000 16383 (9 ∷ 9 ∷ 9 ∷ []) ∷ seen 7999 9000 7999 12000 ∷ [] ≡ one 2 ∷ (3, 0 ∷ 2 ∷ 3 ∷ []) ∷ none ∷ []
   -- the line passes the rectangle that its own smallest rectangle touches
   pub beside : seen 5000 6000 6000 7000 ∷ seen 10000 4500 11000 6500 ∷ [] ≡ none ∷ none ∷ []
+  -- the line drawn westward passes a corner by less than half a step, south-east and north-west; and a step on
+  pub near : seen 0 1001 16 1500 ∷ seen 0 1001 17 1500 ∷ seen 33 900 100 1002 ∷ seen 32 900 100 1002 ∷ [] ≡ none ∷ one 3 ∷ none ∷ one 3 ∷ []
   -- inverted either way, off the grid in each number; before the list is asked for
   pub bad : seen 9 0 8 16383 ∷ seen 0 9 16383 8 ∷ seen 16384 0 16384 16383 ∷ seen 0 16384 16383 16384 ∷ asked 0 0 16384 16383 [] ∷ asked 0 0 16383 16384 [] ∷ [] ≡ refused ∷ refused ∷ refused ∷ refused ∷ (refusal 9 0, []) ∷ (refusal 9 0, []) ∷ []
   -- the lengths first, then damage
@@ -64,4 +66,4 @@ pub record WindowCases : Type 0 where
 pub windowCases : WindowCases
 unfolding those every upFrom sameList turn leftOf rightOf corners meetsArea meets inside samePoint isEnd on within parts conflict inLineOf kindOf endsOf simpleWith simple listed tree nodesOf listingsOf padded lengthsFit slotsOf isLive lineAt liveSlots liveLines liveSound emptySound slotSound noneConflict nodeTable listingTable sound rebuilt withSlot cleared startOf givenLine allOnGrid noLength conflicting conflictDetail freeSlots placed roomFor insertOf known freed deleteOf windowFits slotsIn listedIn windowOf replyTo afterAll numbers baseRule treeBy
 windowCases =
-    record { whole = refl; empty = refl; atEnd = refl; atCorner = refl; onSide = refl; point = refl; segment = refl; beside = refl; bad = refl; lengths = refl; damaged = refl; between = refl }
+    record { whole = refl; empty = refl; atEnd = refl; atCorner = refl; onSide = refl; point = refl; segment = refl; beside = refl; near = refl; bad = refl; lengths = refl; damaged = refl; between = refl }
