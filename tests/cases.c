@@ -390,6 +390,8 @@ static const struct {
     { "one point, a step above the line", { 0, 0, 9, 6 }, { 3, 3, 3, 3 }, 0 },
     { "one point, an end of the line", { 0, 0, 9, 6 }, { 9, 6, 9, 6 }, 1 },
     { "one point, in line with it and beyond its end", { 0, 0, 9, 6 }, { 12, 8, 12, 8 }, 0 },
+    { "one point, on the middle of an upright line", { 4, 9, 4, 0 }, { 4, 5, 4, 5 }, 1 },
+    { "one point, a step beside an upright line", { 4, 9, 4, 0 }, { 5, 5, 5, 5 }, 0 },
     { "an upright segment that crosses it between grid points", { 0, 0, 9, 6 }, { 4, 2, 4, 3 }, 1 },
     { "an upright segment that ends below it", { 0, 0, 9, 6 }, { 4, 0, 4, 2 }, 0 },
     { "a level segment along a part of it", { 0, 4, 9, 4 }, { 3, 4, 5, 4 }, 1 },
