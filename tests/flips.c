@@ -1,6 +1,7 @@
-/* Every single bit of all three tables of some small maps, turned one at a time: a lookup, a window, a delete of a known
- * handle and an insert answer and leave what the plain search says. Most flips damage the map; those of a label,
- * of a generation or of an end that still fits do not, and then the calls must do what the flipped map says. */
+/* Every single bit of all three tables of some small maps, turned one at a time: a lookup, a delete of a known handle and
+ * an insert answer and leave what the plain search says; so does a window, asked wherever the map is still sound and
+ * after every fourth bit. Most flips damage the map; those of a label, of a generation or of an end that still fits do
+ * not, and then the calls must do what the flipped map says. */
 #include "harness.h"
 
 #include <stdio.h>
@@ -101,7 +102,8 @@ static void ask_window(void)
 static void ask_flipped(void)
 {
     ask_points();
-    ask_window();
+    if (is_sound() || turned % 4 == 0)
+        ask_window();
     turned++;
     still_sound += (unsigned long)is_sound();
     if (delete_handle(handle) == 0) {

@@ -768,16 +768,6 @@ static uint64_t east_side_left_off(struct tables t, struct window w)
     return window_without(t, w, is_east_of_inside);
 }
 
-static int is_south_of_inside(const uint16_t *l, const struct window *w)
-{
-    return w->south < w->north && l[Y1] <= w->south && l[Y2] <= w->south;
-}
-
-static uint64_t south_side_left_off(struct tables t, struct window w)
-{
-    return window_without(t, w, is_south_of_inside);
-}
-
 static long long turn(const uint16_t *l, long long x, long long y)
 {
     return ((long long)l[X2] - l[X1]) * (y - l[Y1]) - ((long long)l[Y2] - l[Y1]) * (x - l[X1]);
@@ -811,16 +801,6 @@ static int has_no_end_inside(const uint16_t *l, const struct window *w)
 static uint64_t lines_right_across_left_out(struct tables t, struct window w)
 {
     return window_without(t, w, has_no_end_inside);
-}
-
-static int is_upright_point(const uint16_t *l, const struct window *w)
-{
-    return w->west == w->east && w->south == w->north && l[X1] == l[X2] && w->south != l[Y1] && w->south != l[Y2];
-}
-
-static uint64_t point_on_upright_left_out(struct tables t, struct window w)
-{
-    return window_without(t, w, is_upright_point);
 }
 
 /* Tells the live lines of which this holds. */
@@ -892,15 +872,6 @@ static uint64_t entry_after_last_cleared(struct tables t, struct window w)
     return result;
 }
 
-static uint64_t word_behind_list_written(struct tables t, struct window w)
-{
-    uint64_t result = window(t, w);
-
-    if (refusal(result) == 0 && (size_t)result == w.slots_len)
-        w.slots[w.slots_len] = 0;
-    return result;
-}
-
 static uint64_t inverted_turned_round(struct tables t, struct window w)
 {
     uint16_t was = w.west;
@@ -910,14 +881,6 @@ static uint64_t inverted_turned_round(struct tables t, struct window w)
     w.west = w.east;
     w.east = was;
     return window(t, w);
-}
-
-static uint64_t inverted_holds_nothing(struct tables t, struct window w)
-{
-    uint64_t result = window(t, w);
-    const uint16_t corners[4] = { w.west, w.south, w.east, w.north };
-
-    return refusal(result) == 9 && w.south > w.north && !off_grid(corners) ? 0 : result;
 }
 
 static uint64_t off_grid_cut_to_grid(struct tables t, struct window w)
@@ -1085,18 +1048,14 @@ static const struct planted plants[] = {
     { "an odd point list taken", ON_LOCATE(odd_list_rounded) },
     { "2 before 1 where a list's length is wrong", ON_LOCATE(damage_before_list_length) },
     { "a line that ends on the east side left out", ON_WINDOW(east_side_left_off) },
-    { "a line that ends on the south side left out", ON_WINDOW(south_side_left_off) },
     { "a line that touches a corner left out", ON_WINDOW(corner_left_off) },
     { "a line right across the window left out", ON_WINDOW(lines_right_across_left_out) },
-    { "a point on an upright line's middle left out", ON_WINDOW(point_on_upright_left_out) },
     { "a line told whose box alone meets the window", ON_WINDOW(boxes_alone) },
     { "the window one step too far north", ON_WINDOW(one_step_too_far_north) },
     { "the window half a step too far south-west", ON_WINDOW(half_a_step_off) },
     { "a list that is short filled all the same", ON_WINDOW(written_as_far_as_it_goes) },
     { "the entry after the last slot cleared", ON_WINDOW(entry_after_last_cleared) },
-    { "a word written behind a list just long enough", ON_WINDOW(word_behind_list_written) },
     { "an inverted window turned round", ON_WINDOW(inverted_turned_round) },
-    { "an inverted window done, with no line", ON_WINDOW(inverted_holds_nothing) },
     { "a window to 16,384 taken", ON_WINDOW(off_grid_cut_to_grid) },
     { "two slots of a window told falling", ON_WINDOW(told_falling) },
     { "a slot of a window told twice", ON_WINDOW(last_told_twice) },
