@@ -56,7 +56,8 @@ static void *do_nothing(void *u) { return u; }
 int main(void) {
     size_t idle = used_by(do_nothing);
     make_fan();
-    size_t window = used_by(do_window), locate = used_by(do_locate), insert = used_by(do_insert), del = used_by(do_delete), start = used_by(do_start);
+    size_t window = used_by(do_window), locate = used_by(do_locate), insert = used_by(do_insert);
+    size_t del = used_by(do_delete), start = used_by(do_start);
     printf("bytes of stack, beyond an idle thread's: start %zu, insert %zu, locate %zu, delete %zu, window %zu\n",
            start - idle, insert - idle, locate - idle, del - idle, window - idle);
     return 0;

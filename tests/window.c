@@ -14,7 +14,7 @@ static struct {
     uint64_t answers[REFUSALS];          /* of windows alone, by refusal */
     uint64_t exact, longer, none;        /* done with a list of just so many lines, with a longer one, with no line */
     uint64_t on_point, beside_point;     /* one point: a line through it; none, though one passes a step beside it */
-    uint64_t on_segment;                 /* one step wide in no direction, or in one alone: a line through it */
+    uint64_t on_segment;                 /* of no width or no height: a line through it */
     uint64_t corners[4];                 /* a line's middle has but this corner: south-west, -east, north-west, -east */
     uint64_t sides[4];                   /* a line has but an end of it on this side: west, south, east, north */
 } seen;
@@ -240,17 +240,15 @@ static void note_corners(const struct view *v, const struct stroke *s)
             seen.corners[i]++;
 }
 
-/* The line lies on the far side of a side, all but an end; not along it, nor at a corner. */
-static void note_sides(const struct view *v, const struct stroke *s)
+/* An end on a side, not at a corner, and the line goes off from there: it has no other point of the rectangle. */
+static void note_end(const struct view *v, uint16_t x, uint16_t y, uint16_t far_x, uint16_t far_y)
 {
-    const uint16_t x = s->x1, y = s->y1, to_x = s->x2, to_y = s->y2;
-    const int across = (v->west < x && x < v->east) || (v->west < to_x && to_x < v->east);
-    const int up = (v->south < y && y < v->north) || (v->south < to_y && to_y < v->north);
+    const int across = v->west < x && x < v->east, up = v->south < y && y < v->north;
 
-    seen.sides[0] += up && x != to_x && upper(x, to_x) == v->west;
-    seen.sides[1] += across && y != to_y && upper(y, to_y) == v->south;
-    seen.sides[2] += up && x != to_x && lower(x, to_x) == v->east;
-    seen.sides[3] += across && y != to_y && lower(y, to_y) == v->north;
+    seen.sides[0] += up && x == v->west && far_x < x;
+    seen.sides[1] += across && y == v->south && far_y < y;
+    seen.sides[2] += up && x == v->east && far_x > x;
+    seen.sides[3] += across && y == v->north && far_y > y;
 }
 
 static void note(const struct view *v, long at, size_t count)
@@ -265,7 +263,8 @@ static void note(const struct view *v, long at, size_t count)
         return;
     s = stroke_at((size_t)at);
     note_corners(v, &s);
-    note_sides(v, &s);
+    note_end(v, s.x1, s.y1, s.x2, s.y2);
+    note_end(v, s.x2, s.y2, s.x1, s.y1);
 }
 
 /* Asking */
@@ -433,6 +432,7 @@ int report_windows(void)
            "north-east %llu; with but a line's end on a side: west %llu, south %llu, east %llu, north %llu\n",
            (unsigned long long)c[0], (unsigned long long)c[1], (unsigned long long)c[2], (unsigned long long)c[3],
            (unsigned long long)s[0], (unsigned long long)s[1], (unsigned long long)s[2], (unsigned long long)s[3]);
-    return none_of(a, 3) + none_of(a + BAD_WINDOW, 2) + none_of(&seen.exact, 3) + none_of(&seen.on_point, 3)
-        + none_of(c, 4) + none_of(s, 4);
+    return none_of(a, 3) + none_of(a + BAD_WINDOW, 2) + none_of(&seen.exact, 1) + none_of(&seen.longer, 1)
+        + none_of(&seen.none, 1) + none_of(&seen.on_point, 1) + none_of(&seen.beside_point, 1)
+        + none_of(&seen.on_segment, 1) + none_of(c, 4) + none_of(s, 4);
 }
