@@ -5,6 +5,7 @@
 # make valgrind  the tool over all examples, under valgrind
 # make examples  writes what the examples are expected to give anew: read the difference
 # make bench     times every call on the maps of bench/maps, beside a twin in C and the naive way
+# make bench-windows  times windows beside the scan alone and walks of the tree
 # make bench-instructions  counts instructions with callgrind, where the machine is noisy
 # make bench-others  sets the library beside GEOS and Boost, where libgeos-dev and libboost-dev are installed
 # make performance  writes docs/PERFORMANCE.md and its picture anew from both
@@ -69,13 +70,17 @@ valgrind: build/boundary-map
 # Measuring: never part of a test.
 BENCH_MAPS = $(patsubst %,bench/maps/%.txt,fields10 fields100 fields300 fields1000 slivers furrows fences fans \
   ditches hub250 hub500 hub1000)
-BENCH_HEADERS = bench/calls.h bench/mapfile.h bench/plane.h bench/ways.h include/boundary_map.h
+BENCH_HEADERS = bench/calls.h bench/mapfile.h bench/plane.h bench/timing.h bench/tree.h bench/ways.h bench/window.h include/boundary_map.h
 
-build/bench/bench: bench/bench.c bench/mapfile.c bench/twin.c bench/naive.c $(BENCH_HEADERS) $(LIB)
+build/bench/bench: bench/bench.c bench/mapfile.c bench/twin.c bench/naive.c bench/window.c $(BENCH_HEADERS) $(LIB)
 	@mkdir -p build/bench
 	$(BUILD_C) $(filter %.c,$^) $(LIB) $(LDFLAGS) -o $@
 
-build/bench/count: bench/count.c bench/mapfile.c bench/twin.c $(BENCH_HEADERS) $(LIB)
+build/bench/count: bench/count.c bench/mapfile.c bench/twin.c bench/window.c $(BENCH_HEADERS) $(LIB)
+	@mkdir -p build/bench
+	$(BUILD_C) $(filter %.c,$^) $(LIB) $(LDFLAGS) -o $@
+
+build/bench/windows: bench/windows.c bench/mapfile.c bench/twin.c bench/window.c $(BENCH_HEADERS) $(LIB)
 	@mkdir -p build/bench
 	$(BUILD_C) $(filter %.c,$^) $(LIB) $(LDFLAGS) -o $@
 
@@ -89,6 +94,9 @@ build/bench/stack: bench/stack.c tests/deepest_fan.h include/boundary_map.h $(LI
 
 bench: build/bench/bench
 	@build/bench/bench $(BENCH_MAPS)
+
+bench-windows: build/bench/windows
+	@build/bench/windows $(BENCH_MAPS)
 
 bench-instructions: build/bench/count
 	@bench/instructions.sh
@@ -141,4 +149,4 @@ install: build/boundary-map
 clean:
 	rm -rf build
 
-.PHONY: all demo capacity check test valgrind bench bench-instructions bench-others bench-maps performance stack examples install clean
+.PHONY: all demo capacity check test valgrind bench bench-windows bench-instructions bench-others bench-maps performance stack examples install clean

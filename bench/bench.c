@@ -4,53 +4,24 @@
 ** the turns' ratios. */
 #define _POSIX_C_SOURCE 199309L
 #include "mapfile.h"
-#include "ways.h"
+#include "timing.h"
+#include "window.h"
 
 #include <stdio.h>
-#include <stdlib.h>
-#include <string.h>
-#include <time.h>
 
 enum { LIBRARY, TWIN, NAIVE, WAYS };
-enum { SOUNDNESS, INSERT, DELETE, LOCATE1, LOCATE100, LOCATE10000, CALLS };
-enum { POINTS = 10000, MOST = 401 };
+enum { SOUNDNESS, INSERT, DELETE, LOCATE1, LOCATE100, LOCATE10000, WINDOW, CALLS = WINDOW + WINDOWS };
+enum { POINTS = 10000, MOST = MOST_TURNS };
 
-static const char *const call_names[CALLS] = {"soundness", "insert", "delete", "locate 1", "locate 100", "locate 10000"};
-static const size_t points_of[CALLS] = {0, 0, 0, 1, 100, 10000};
+static const char *const call_names[WINDOW] = {"soundness", "insert", "delete", "locate 1", "locate 100", "locate 10000"};
+static const size_t points_of[WINDOW] = {0, 0, 0, 1, 100, 10000};
 
 static struct map maps[WAYS];
 static uint32_t answers[WAYS][POINTS];
+static uint16_t told[WAYS][BOUNDARY_MAP_SLOTS_MAX];
 static uint16_t points[2 * POINTS];
 static double times[CALLS][WAYS][MOST], plain[MOST];
 static size_t taken[CALLS][WAYS], plain_taken;
-
-/* Microseconds of this thread's processor time: what other programs take meanwhile is left out. */
-static double now(void) {
-  struct timespec t;
-  clock_gettime(CLOCK_THREAD_CPUTIME_ID, &t);
-  return (double)t.tv_sec * 1e6 + (double)t.tv_nsec / 1e3;
-}
-
-static int by_size(const void *a, const void *b) {
-  double x = *(const double *)a, y = *(const double *)b;
-  return (x > y) - (x < y);
-}
-
-/* The time that a part of the times stay below. */
-static double quantile(const double *t, size_t count, double part) {
-  static double sorted[MOST];
-  if (count == 0) return 0;
-  memcpy(sorted, t, count * sizeof *t);
-  qsort(sorted, count, sizeof *sorted, by_size);
-  return sorted[(size_t)((double)(count - 1) * part + 0.5)];
-}
-
-/* The median of a's times over b's, turn by turn: what slows the machine for a while falls on both. */
-static double ratio(const double *a, const double *b, size_t count) {
-  static double r[MOST];
-  for (size_t i = 0; i < count; i++) r[i] = a[i] / b[i];
-  return quantile(r, count, 0.5);
-}
 
 static void record(int call, int way, double t) {
   if (taken[call][way] < MOST) times[call][way][taken[call][way]++] = t;
@@ -79,6 +50,13 @@ static uint64_t locate(int way, const uint16_t *from, size_t count) {
   if (way == LIBRARY) return boundary_map_locate(MAP_OF(m), from, 2 * count, to, count);
   return way == TWIN ? twin_locate(MAP_OF(m), from, 2 * count, to, count)
                      : naive_locate(MAP_OF(m), from, 2 * count, to, count);
+}
+
+static uint64_t window(int way, const struct window *w) {
+  const struct map *m = &maps[way];
+  size_t len = BOUNDARY_MAP_SLOTS_MAX;
+  if (way == LIBRARY) return boundary_map_window(MAP_OF(m), VIEW_OF(w, told[way], len));
+  return way == TWIN ? twin_window(MAP_OF(m), VIEW_OF(w, told[way], len)) : naive_window(MAP_OF(m), VIEW_OF(w, told[way], len));
 }
 
 static void load(const struct row *rows, size_t count, const char *name) {
@@ -136,6 +114,18 @@ static void time_locate(int ways, int call, int turned, const char *name) {
     if (done[way] != done[0] || memcmp(answers[way], answers[0], count * sizeof answers[0][0])) fail("a lookup", name);
 }
 
+static void time_window(int ways, int which, int turned, const char *name) {
+  uint64_t done[WAYS];
+  for (int i = 0; i < ways; i++) {
+    int way = turned ? ways - 1 - i : i;
+    double t = now();
+    done[way] = window(way, &windows[which]);
+    record(WINDOW + which, way, now() - t);
+  }
+  for (int way = 1; way < ways; way++)
+    if (done[way] != done[0] || memcmp(told[way], told[0], (size_t)done[0] * sizeof told[0][0])) fail("a window", name);
+}
+
 /* All 10,000 points by list search alone, with no check of the map. */
 static void time_plain(const char *name) {
   double t = now();
@@ -155,16 +145,18 @@ static void measure(const char *name, size_t lines) {
     time_locate(ways, SOUNDNESS, i % 2, name);
     time_locate(ways, LOCATE1, i % 2, name);
     time_locate(ways, LOCATE100, i % 2, name);
+    for (int which = 0; which < WINDOWS; which++) time_window(ways, which, i % 2, name);
     if (i < many) time_locate(ways, LOCATE10000, i % 2, name);
     if (i < 2 * seldom) time_plain(name);
   }
 }
 
 static void print_call(const char *name, size_t lines, int call) {
+  const char *what = call < WINDOW ? call_names[call] : windows[call - WINDOW].name;
   double m[WAYS], of_twin = ratio(times[call][LIBRARY], times[call][TWIN], taken[call][TWIN]);
   double faster = ratio(times[call][NAIVE], times[call][LIBRARY], taken[call][NAIVE]);
   for (int way = 0; way < WAYS; way++) m[way] = quantile(times[call][way], taken[call][way], 0.5);
-  printf("%-11s %5zu  %-12s %9.1f %9.1f %9.1f %9.1f %10.1f %7.2f %8.1f\n", name, lines, call_names[call],
+  printf("%-11s %5zu  %-12s %9.1f %9.1f %9.1f %9.1f %10.1f %7.2f %8.1f\n", name, lines, what,
          quantile(times[call][LIBRARY], taken[call][LIBRARY], 0.25), m[LIBRARY],
          quantile(times[call][LIBRARY], taken[call][LIBRARY], 0.75), m[TWIN], m[NAIVE], of_twin, faster);
 }

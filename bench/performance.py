@@ -10,6 +10,7 @@ import subprocess
 
 ROOT = os.path.dirname(os.path.dirname(os.path.abspath(__file__)))
 CALLS = ["soundness", "insert", "delete", "locate 1", "locate 100", "locate 10000"]
+WINDOWS = ["window 2000", "window 8000", "window all"]
 FIELDS = ["fields10", "fields100", "fields300", "fields1000"]
 
 
@@ -32,11 +33,10 @@ def read_times(text):
 
 
 def read_instructions(text):
-    first, second = text.strip().split("\n\n")
-    rows = [line.split() for line in first.splitlines()[1:]]
-    shares = [line.split() for line in second.splitlines()[1:]]
+    rows, shares, scans = [[line.split() for line in part.splitlines()[1:]] for part in text.strip().split("\n\n")]
     counts = {(r[0], r[1]): (int(r[2]), int(r[3])) for r in rows}
-    return counts, [(r[0], int(r[2]), int(r[3]), float(r[4])) for r in shares]
+    shares = [(r[0], int(r[2]), int(r[3]), float(r[4])) for r in shares]
+    return counts, shares, [(r[0], r[1], *map(int, r[2:6]), float(r[6])) for r in scans]
 
 
 def processor():
@@ -64,7 +64,7 @@ def cell(figure, good):
     return figure if good else f"**{figure}, missed**"
 
 
-def must_show(times, counts):
+def must_show(times, counts, scans):
     """The demands are for about 1,000 lines: each is told for every map of that size, not for fields alone."""
     names = [name for name, calls in times.items() if calls["insert"]["lines"] >= 900]
     rows = ["| Asked at about 1,000 lines | " + " | ".join(names) + " |", "|---|" + "---|" * len(names)]
@@ -82,6 +82,9 @@ def must_show(times, counts):
     grows = times["fields1000"]["insert"]["library"] / times["fields100"]["insert"]["library"]
     rows.append("| insert over one at 100 lines of fields: at most 12 | " + cell(f"{grows:.1f}", grows <= 12) +
                 " | - " * (len(names) - 1) + "|")
+    most = {n: max([scan[-1] for scan in scans if scan[0] == n], default=None) for n in names}
+    rows.append("| a window's scan, percent of the call's instructions: at most 10 | " +
+                " | ".join("-" if most[n] is None else cell(f"{most[n]:.1f}", most[n] <= 10) for n in names) + " |")
     counted = ", ".join(f"{call} {library / twin:.3f}" for (name, call), (library, twin) in counts.items()
                         if name == "fields1000")
     return "\n".join(rows) + f"\n\nLibrary over twin in instructions, fields1000: {counted}."
@@ -129,6 +132,23 @@ def search_table(times):
     for name, calls in times.items():
         r = calls["plain search"]
         rows.append(f"| {name} | {short(r['library'])} | {short(r['naive'])} | {r['faster']:.1f} |")
+    return "\n".join(rows)
+
+
+def window_table(times):
+    rows = ["| Map | Lines | soundness | " + " | ".join(WINDOWS) + " | " + " | ".join(f"{w} over twin" for w in WINDOWS) + " |",
+            "|---|---|---|" + "---|" * 6]
+    for name, calls in times.items():
+        cells = [short(calls[c]["library"]) for c in ["soundness"] + WINDOWS] + [f"{calls[w]['of_twin']:.2f}" for w in WINDOWS]
+        rows.append(f"| {name} | {calls['insert']['lines']} | " + " | ".join(cells) + " |")
+    return "\n".join(rows)
+
+
+def scan_table(scans):
+    rows = ["| Map | window | instructions of the call | of these not in the check | percent | a walk | a walk with an index |",
+            "|---|---|---|---|---|---|---|"]
+    for name, window, call, scan, walk, indexed, percent in scans:
+        rows.append(f"| {name} | {window} | {call:,} | {scan:,} | {percent:.1f} | {walk:,} | {indexed:,} |")
     return "\n".join(rows)
 
 
@@ -246,6 +266,18 @@ Against a plain search of all lines for each point, with no check of the map at 
 
 {search}
 
+## Windows
+
+A window reads every live line once, after the check of the map. Microseconds of squares of side 2,000 and 8,000 in the middle of the
+map and of the whole map; soundness has the clearing and making of the lookup's index in it, which a window does not need:
+
+{windows}
+
+Beside the scan the least that a walk of the tree would take in its place (bench/window.c, no line of a leaf tested), without an
+index of the node table and with one that is made first:
+
+{scans}
+
 ## Instructions
 
 Refused is an insert of the map's last line once more: every other line is tested before it, and then how it conflicts.
@@ -264,15 +296,15 @@ loops around it:
 
 def main():
     times = read_times(output_of("bench"))
-    counts, shares = read_instructions(output_of("bench-instructions"))
+    counts, shares, scans = read_instructions(output_of("bench-instructions"))
     with open(os.path.join(ROOT, "bench/notes.md")) as f:
         notes = f.read()
     others = [name for name in times if name not in FIELDS]
-    page = PAGE.format(processor=processor(), must=must_show(times, counts), elsewhere=elsewhere(times), growth=time_table(times, FIELDS),
+    page = PAGE.format(processor=processor(), must=must_show(times, counts, scans), elsewhere=elsewhere(times), growth=time_table(times, FIELDS),
                        spread=spread_table(times), others=time_table(times, others),
                        twin=ratio_table(times, "of_twin", ".2f"), naive=ratio_table(times, "faster", ",.1f"),
-                       search=search_table(times), instructions=instruction_table(counts), shares=share_table(shares),
-                       notes=notes)
+                       search=search_table(times), windows=window_table(times), scans=scan_table(scans),
+                       instructions=instruction_table(counts), shares=share_table(shares), notes=notes)
     with open(os.path.join(ROOT, "docs/PERFORMANCE.md"), "w") as f:
         f.write(page)
     with open(os.path.join(ROOT, "docs/performance.svg"), "w") as f:

@@ -17,12 +17,15 @@ static const struct boundary_map map = {lines, 8 * SLOTS, nodes, ENTRIES, listin
 #define LENT BOUNDARY_MAP_LENT(&map)
 static uint16_t points[2];
 static uint32_t answers[1];
+static uint16_t slots[SLOTS];
 static uint64_t result;
 
 static void *do_start(void *u) { result = boundary_map_start(LENT); return u; }
 static void *do_insert(void *u) { result = boundary_map_insert(LENT, 0, 0, 0, 1, 1, 2); return u; }
 static void *do_delete(void *u) { result = boundary_map_delete(LENT, boundary_map_handle(0, 1)); return u; }
 static void *do_locate(void *u) { result = boundary_map_locate(LENT, points, 2, answers, 1); return u; }
+
+static void *do_window(void *u) { result = boundary_map_window(LENT, 0, 0, 16383, 16383, slots, SLOTS); return u; }
 
 static void make_fan(void) {
     unsigned ray_of[FAN_RAYS];
@@ -53,8 +56,9 @@ static void *do_nothing(void *u) { return u; }
 int main(void) {
     size_t idle = used_by(do_nothing);
     make_fan();
-    size_t locate = used_by(do_locate), insert = used_by(do_insert), del = used_by(do_delete), start = used_by(do_start);
-    printf("bytes of stack, beyond an idle thread's: start %zu, insert %zu, locate %zu, delete %zu\n",
-           start - idle, insert - idle, locate - idle, del - idle);
+    size_t window = used_by(do_window), locate = used_by(do_locate), insert = used_by(do_insert);
+    size_t del = used_by(do_delete), start = used_by(do_start);
+    printf("bytes of stack, beyond an idle thread's: start %zu, insert %zu, locate %zu, delete %zu, window %zu\n",
+           start - idle, insert - idle, locate - idle, del - idle, window - idle);
     return 0;
 }

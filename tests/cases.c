@@ -1,6 +1,6 @@
-/* Document 01's numbers, P1 to P11 and the case that is only run, and pairs of lines of each kind of conflict, over
- * the C boundary. Each is written out here by hand and asked twice: of the library, and of the plain search that the
- * other tests rest on. */
+/* Document 01's numbers, P1 to P11 and the case that is only run, pairs of lines of each kind of conflict, and windows,
+ * over the C boundary. Each is written out here by hand and asked twice: of the library, and of the plain search that
+ * the other tests rest on. */
 #include "library.h"
 #include "plain.h"
 
@@ -17,6 +17,8 @@ struct calls {
     uint64_t (*remove)(uint16_t *, size_t, uint16_t *, size_t, uint16_t *, size_t, uint32_t);
     uint64_t (*locate)(const uint16_t *, size_t, const uint16_t *, size_t, const uint16_t *, size_t,
                        const uint16_t *, size_t, uint32_t *, size_t);
+    uint64_t (*window)(const uint16_t *, size_t, const uint16_t *, size_t, const uint16_t *, size_t, uint16_t,
+                       uint16_t, uint16_t, uint16_t, uint16_t *, size_t);
 };
 
 static struct plain oracle;
@@ -42,10 +44,8 @@ static uint64_t delete_plainly(uint16_t *l, size_t ln, uint16_t *n, size_t nn, u
     return plain_delete(&oracle, handle);
 }
 
-/* The plain search writes no table when it locates; it only keeps them as tables that it may write. */
-static uint64_t locate_plainly(const uint16_t *l, size_t ln, const uint16_t *n, size_t nn, const uint16_t *s,
-                               size_t sn, const uint16_t *points, size_t points_len, uint32_t *answers,
-                               size_t answers_len)
+/* The plain search writes no table when it only reads; it keeps them as tables that it may write. */
+static void take_copies(const uint16_t *l, size_t ln, const uint16_t *n, size_t nn, const uint16_t *s, size_t sn)
 {
     static uint16_t lines[8 * PLAIN_SLOTS], nodes[PLAIN_ROOM], listings[PLAIN_ROOM];
 
@@ -53,12 +53,28 @@ static uint64_t locate_plainly(const uint16_t *l, size_t ln, const uint16_t *n, 
     memcpy(nodes, n, nn * sizeof *n);
     memcpy(listings, s, sn * sizeof *s);
     plain_take(&oracle, lines, ln, nodes, nn, listings, sn);
+}
+
+static uint64_t locate_plainly(const uint16_t *l, size_t ln, const uint16_t *n, size_t nn, const uint16_t *s,
+                               size_t sn, const uint16_t *points, size_t points_len, uint32_t *answers,
+                               size_t answers_len)
+{
+    take_copies(l, ln, n, nn, s, sn);
     return plain_locate(&oracle, points, points_len, answers, answers_len);
 }
 
+static uint64_t window_plainly(const uint16_t *l, size_t ln, const uint16_t *n, size_t nn, const uint16_t *s,
+                               size_t sn, uint16_t west, uint16_t south, uint16_t east, uint16_t north,
+                               uint16_t *to, size_t to_len)
+{
+    take_copies(l, ln, n, nn, s, sn);
+    return plain_window(&oracle, west, south, east, north, to, to_len);
+}
+
 static const struct calls sides[2] = {
-    { "library", boundary_map_start, boundary_map_insert, boundary_map_delete, boundary_map_locate },
-    { "plain search", start_plainly, insert_plainly, delete_plainly, locate_plainly },
+    { "library", boundary_map_start, boundary_map_insert, boundary_map_delete, boundary_map_locate,
+      boundary_map_window },
+    { "plain search", start_plainly, insert_plainly, delete_plainly, locate_plainly, window_plainly },
 };
 
 /* One map at a time, and shorthands for its calls */
@@ -319,6 +335,139 @@ static void lowest_slot_kind(void)
     EXPECT(insert(8, 5, 6, 5) == refused(5, 262144 + 2));
 }
 
+/* Windows. The list holds noise before each call, and one more entry than any of them is lent. */
+
+enum { LIST = 6 };
+
+static const uint16_t noise[LIST] = { 60001, 60002, 60003, 60004, 60005, 60006 };
+
+static uint16_t list[LIST];
+
+static uint64_t window(uint16_t west, uint16_t south, uint16_t east, uint16_t north, size_t list_len)
+{
+    memcpy(list, noise, sizeof list);
+    return side->window(lines, 8 * slots, nodes, node_room, listings, listing_room, west, south, east, north, list,
+                        list_len);
+}
+
+/* Whether the list begins so and is noise from there on. */
+static int tells(const uint16_t *begin, size_t count)
+{
+    if (count > 0 && memcmp(list, begin, count * sizeof *begin) != 0)
+        return 0;
+    return memcmp(list + count, noise + count, (LIST - count) * sizeof *noise) == 0;
+}
+
+/* Of the line in slot 0 and a rectangle: whether they meet. */
+static const struct {
+    const char *how;
+    uint16_t line[4], rectangle[4];
+    int meet;
+} rectangles[] = {
+    { "a line inside", { 4, 5, 6, 7 }, { 0, 0, 10, 10 }, 1 },
+    { "a line right across, both ends outside", { 0, 3, 20, 9 }, { 5, 2, 10, 8 }, 1 },
+    { "the box of the line meets, the line does not", { 0, 0, 20, 20 }, { 12, 2, 18, 8 }, 0 },
+    { "an end on the west side, from outside", { 0, 5, 5, 6 }, { 5, 0, 10, 10 }, 1 },
+    { "an end a step short of the west side", { 0, 5, 4, 6 }, { 5, 0, 10, 10 }, 0 },
+    { "an end on the south side", { 7, 5, 8, 0 }, { 5, 5, 10, 10 }, 1 },
+    { "an end a step short of the south side", { 7, 4, 8, 0 }, { 5, 5, 10, 10 }, 0 },
+    { "an end on the east side", { 20, 9, 10, 8 }, { 5, 5, 10, 10 }, 1 },
+    { "an end a step short of the east side", { 20, 9, 11, 8 }, { 5, 5, 10, 10 }, 0 },
+    { "an end on the north side", { 6, 10, 9, 12 }, { 5, 5, 10, 10 }, 1 },
+    { "an end a step short of the north side", { 6, 11, 9, 12 }, { 5, 5, 10, 10 }, 0 },
+    { "the middle touches the north-west corner", { 0, 5, 10, 15 }, { 5, 0, 12, 10 }, 1 },
+    { "a step past the north-west corner", { 0, 6, 10, 16 }, { 5, 0, 12, 10 }, 0 },
+    { "the middle touches the south-east corner", { 5, 0, 15, 10 }, { 2, 5, 10, 12 }, 1 },
+    { "the middle touches the south-west corner", { 2, 8, 8, 2 }, { 5, 5, 12, 12 }, 1 },
+    { "a step short of the south-west corner", { 2, 7, 7, 2 }, { 5, 5, 12, 12 }, 0 },
+    { "the middle touches the north-east corner", { 9, 16, 15, 8 }, { 3, 2, 12, 12 }, 1 },
+    { "past the north-east corner by less than a step", { 9, 16, 15, 9 }, { 3, 2, 12, 12 }, 0 },
+    { "an end on a corner", { 10, 10, 14, 18 }, { 5, 5, 10, 10 }, 1 },
+    { "an end a step beside a corner", { 11, 10, 14, 18 }, { 5, 5, 10, 10 }, 0 },
+    { "along the west side and beyond", { 5, 0, 5, 20 }, { 5, 5, 10, 10 }, 1 },
+    { "along the north side's straight line, and apart", { 11, 10, 20, 10 }, { 5, 5, 10, 10 }, 0 },
+    { "one point, on the middle of a line", { 0, 0, 9, 6 }, { 3, 2, 3, 2 }, 1 },
+    { "one point, a step above the line", { 0, 0, 9, 6 }, { 3, 3, 3, 3 }, 0 },
+    { "one point, an end of the line", { 0, 0, 9, 6 }, { 9, 6, 9, 6 }, 1 },
+    { "one point, in line with it and beyond its end", { 0, 0, 9, 6 }, { 12, 8, 12, 8 }, 0 },
+    { "one point, on the middle of an upright line", { 4, 9, 4, 0 }, { 4, 5, 4, 5 }, 1 },
+    { "one point, a step beside an upright line", { 4, 9, 4, 0 }, { 5, 5, 5, 5 }, 0 },
+    { "an upright segment that crosses it between grid points", { 0, 0, 9, 6 }, { 4, 2, 4, 3 }, 1 },
+    { "an upright segment that ends below it", { 0, 0, 9, 6 }, { 4, 0, 4, 2 }, 0 },
+    { "a level segment along a part of it", { 0, 4, 9, 4 }, { 3, 4, 5, 4 }, 1 },
+    { "a level segment that touches its end", { 0, 4, 9, 4 }, { 9, 4, 12, 4 }, 1 },
+    { "a level segment a step on", { 0, 4, 9, 4 }, { 10, 4, 12, 4 }, 0 },
+    { "from corner to corner of the map, its middle point alone", { 0, 0, 16382, 16382 }, { 8191, 8191, 8191, 8191 }, 1 },
+    { "the last grid point", { 16383, 16383, 0, 16382 }, { 16383, 16383, 16383, 16383 }, 1 },
+    { "the whole map", { 16383, 0, 16382, 0 }, { 0, 0, 16383, 16383 }, 1 },
+    { "below a corner by the least part of a step", { 0, 0, 16383, 16382 }, { 0, 1, 1, 5 }, 0 },
+    { "the same, a step wider", { 0, 0, 16383, 16382 }, { 0, 1, 2, 5 }, 1 },
+    { "above a corner by the least part of a step", { 0, 0, 16383, 16382 }, { 16382, 0, 16383, 16381 }, 0 },
+    { "the same, a step higher", { 0, 0, 16383, 16382 }, { 16382, 0, 16383, 16382 }, 1 },
+};
+
+static void windows_meet(void)
+{
+    const uint16_t slot_0[1] = { 0 };
+    size_t i;
+
+    for (i = 0; i < sizeof rectangles / sizeof *rectangles; i++) {
+        const uint16_t *l = rectangles[i].line, *r = rectangles[i].rectangle;
+        size_t told = rectangles[i].meet ? 1 : 0;
+
+        fresh_large();
+        EXPECT(insert(l[0], l[1], l[2], l[3]) == 1);
+        expect(window(r[0], r[1], r[2], r[3], 5) == told, rectangles[i].how);
+        expect(tells(slot_0, told), rectangles[i].how);
+    }
+}
+
+/* Slots 0 to 3 live and then 1 freed: the lines that meet the rectangle are told rising, whatever their order in the
+ * tree, and the entries after the last stay. */
+static void windows_list(void)
+{
+    const uint16_t rising[] = { 0, 2, 3 }, last[] = { 3 };
+
+    fresh_large();
+    EXPECT(insert(9, 9, 9, 12) == 1);
+    EXPECT(insert(5, 5, 6, 6) == 65536 + 1);
+    EXPECT(insert(4, 4, 4, 0) == 2 * 65536 + 1);
+    EXPECT(insert(0, 9, 7, 7) == 3 * 65536 + 1);
+    EXPECT(delete_handle(65536 + 1) == 0);
+    EXPECT(window(4, 4, 9, 9, 5) == 3 && tells(rising, 3));
+    EXPECT(window(4, 4, 9, 9, 4) == 3 && tells(rising, 3));
+    EXPECT(window(4, 4, 9, 9, 3) == 3 && tells(rising, 3));
+    EXPECT(window(4, 4, 9, 9, 2) == refused(10, 0) && tells(NULL, 0));
+    EXPECT(window(4, 4, 9, 9, 1) == refused(10, 0) && tells(NULL, 0));
+    EXPECT(window(4, 4, 9, 9, 0) == refused(10, 0) && tells(NULL, 0));
+    EXPECT(window(0, 0, 16383, 16383, 3) == 3 && tells(rising, 3));
+    EXPECT(window(5, 5, 8, 8, 1) == 1 && tells(last, 1));
+    EXPECT(window(5, 5, 6, 6, 5) == 0 && tells(NULL, 0));
+    EXPECT(window(5, 5, 6, 6, 0) == 0 && tells(NULL, 0));
+}
+
+/* A coordinate off the grid, or the rectangle inverted; every refusal before those after it. */
+static void windows_refused(void)
+{
+    fresh_large();
+    EXPECT(insert(0, 0, 16383, 16383) == 1);
+    EXPECT(window(16384, 0, 16384, 0, 5) == refused(9, 0) && tells(NULL, 0));
+    EXPECT(window(0, 0, 16384, 0, 5) == refused(9, 0) && tells(NULL, 0));
+    EXPECT(window(0, 0, 0, 16384, 5) == refused(9, 0) && tells(NULL, 0));
+    EXPECT(window(0, 16384, 0, 65535, 5) == refused(9, 0) && tells(NULL, 0));
+    EXPECT(window(0, 0, 65535, 65535, 5) == refused(9, 0) && tells(NULL, 0));
+    EXPECT(window(6, 0, 5, 9, 5) == refused(9, 0) && tells(NULL, 0));
+    EXPECT(window(0, 6, 9, 5, 5) == refused(9, 0) && tells(NULL, 0));
+    EXPECT(window(9, 9, 0, 0, 0) == refused(9, 0) && tells(NULL, 0));
+    EXPECT(window(0, 0, 9, 9, 0) == refused(10, 0) && tells(NULL, 0));
+    nodes[5] = 1;
+    EXPECT(window(0, 0, 9, 9, 5) == refused(2, 0) && tells(NULL, 0));
+    EXPECT(window(9, 9, 0, 0, 0) == refused(2, 0) && tells(NULL, 0));
+    node_room = 0;
+    EXPECT(window(0, 0, 9, 9, 5) == refused(1, 0) && tells(NULL, 0));
+    EXPECT(window(9, 9, 0, 0, 0) == refused(1, 0) && tells(NULL, 0));
+}
+
 static size_t skip_block(size_t at, size_t *listed)
 {
     size_t left = 1;
@@ -370,6 +519,7 @@ static const struct {
     { "P1", p1 }, { "P2", p2 }, { "P3", p3 }, { "P4", p4 },    { "P5", p5 },   { "P6", p6 },
     { "P7", p7 }, { "P8", p8 }, { "P9", p9 }, { "P10", p10 },  { "P11", p11 }, { "the run case", run_only },
     { "the kinds", kinds }, { "the lowest slot's kind", lowest_slot_kind },
+    { "windows", windows_meet }, { "the list of a window", windows_list }, { "windows refused", windows_refused },
 };
 
 int main(void)

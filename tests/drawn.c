@@ -12,12 +12,12 @@ static struct {
     int32_t reach;               /* a stroke's far end is drawn no farther off than this, as a rule */
 } frame;
 
-static uint16_t on_grid(int32_t v)
+uint16_t on_grid(int32_t v)
 {
     return (uint16_t)(v < 0 ? 0 : v > LAST ? LAST : v);
 }
 
-static uint16_t off_grid(void)
+uint16_t off_grid(void)
 {
     return (uint16_t)(LAST + 1 + (one_in(2) ? 0 : under(49152)));
 }
@@ -37,6 +37,11 @@ void choose_frame(void)
         frame.y = one_in(2) ? 0 : LAST - frame.side;
     }
     frame.reach = one_in(3) ? frame.side : frame.side / between(3, 12) + 1;
+}
+
+void narrow_frame(int32_t side)
+{
+    frame.side = frame.reach = side < frame.side ? side : frame.side;
 }
 
 static void in_frame(uint16_t *x, uint16_t *y)
@@ -66,8 +71,7 @@ static size_t any_slots(void)
 
 /* Lines that are there */
 
-/* Finds a live slot by trying a few; where its entries begin, or -1. */
-static long some_line(void)
+long some_line(void)
 {
     size_t slots = capacity(LINES) / 8;
     int tries;
@@ -94,8 +98,7 @@ static int32_t common_measure(int32_t a, int32_t b)
     return a;
 }
 
-/* A grid point of the straight line through a slot's line: on it, or past an end if asked so. */
-static void along_line(size_t at, int past, uint16_t *x, uint16_t *y)
+void along_line(size_t at, int past, uint16_t *x, uint16_t *y)
 {
     int32_t x1 = peek(LINES, at + 2), y1 = peek(LINES, at + 3);
     int32_t dx = peek(LINES, at + 4) - x1, dy = peek(LINES, at + 5) - y1;
@@ -288,6 +291,8 @@ void live_on(int calls, void (*draw)(struct stroke *))
         } else {
             start();
         }
+        if (one_in(20))
+            ask_window();
     }
 }
 
@@ -687,6 +692,7 @@ static void ask_large(int times)
         delete_handle(live_handle());
         ask_points(MOST_POINTS);
         insert_stroke(&net.fence[under((uint32_t)net.count)]);
+        ask_window();
     }
 }
 
@@ -724,6 +730,7 @@ void part_full(void)
     shuffle_net();
     lay_net(PLAIN_SLOTS);
     insert(1, 16000, 16000, 16000, 1, 2);
+    ask_whole();
     ask_large(1);
 }
 
@@ -782,6 +789,7 @@ void part_hubs(void)
         fail("a hub is not as it was made");
     ask_points(MOST_POINTS);
     insert_stroke(&net.fence[under((uint32_t)net.count)]);
+    ask_window();
     delete_handle(live_handle());
     ask_points(MOST_POINTS);
 }
@@ -803,6 +811,7 @@ void part_great_fans(void)
         lay_stroke(i, &s);
     }
     ask_points(1);
+    ask_window();
     insert(0, 8000, 1, 8000, 1, 2);
     delete_handle(live_handle());
 }

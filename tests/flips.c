@@ -1,6 +1,7 @@
-/* Every single bit of all three tables of some small maps, turned one at a time: a lookup, a delete of a known
- * handle and an insert answer and leave what the plain search says. Most flips damage the map; those of a label,
- * of a generation or of an end that still fits do not, and then the calls must do what the flipped map says. */
+/* Every single bit of all three tables of some small maps, turned one at a time: a lookup, a delete of a known handle and
+ * an insert answer and leave what the plain search says; so does a window, asked wherever the map is still sound and
+ * after every fourth bit. Most flips damage the map; those of a label, of a generation or of an end that still fits do
+ * not, and then the calls must do what the flipped map says. */
 #include "harness.h"
 
 #include <stdio.h>
@@ -90,9 +91,19 @@ static void ask_points(void)
     locate(points, 4);
 }
 
+/* From the first line's middle to the map's north-east corner: an end moved by a flip may leave it, or come into it. */
+static void ask_window(void)
+{
+    const uint16_t *l = small->line[0];
+
+    window((uint16_t)((l[0] + l[2]) / 2), (uint16_t)((l[1] + l[3]) / 2), 16383, 16383, SLOTS);
+}
+
 static void ask_flipped(void)
 {
     ask_points();
+    if (is_sound() || turned % 4 == 0)
+        ask_window();
     turned++;
     still_sound += (unsigned long)is_sound();
     if (delete_handle(handle) == 0) {

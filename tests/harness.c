@@ -136,9 +136,9 @@ static struct {
     uint16_t kept[TABLES][MOST_TABLE];
 } map;
 
-/* The lists of a locate on both sides; an answer is kept as two entries. */
+/* The lists of a locate on both sides, where an answer is kept as two entries, and the list of a window. */
 static struct {
-    struct lent points[2], answers[2];
+    struct lent points[2], answers[2], slots[2];
 } lists;
 
 static const char *const table_names[TABLES] = { "line table", "node table", "listing table" };
@@ -154,6 +154,7 @@ static void take_all_back(void)
     for (i = 0; i < 2; i++) {
         take_back(&lists.points[i]);
         take_back(&lists.answers[i]);
+        take_back(&lists.slots[i]);
     }
 }
 
@@ -445,6 +446,45 @@ uint64_t locate_lengths(const uint16_t *points, size_t points_len, size_t answer
 uint64_t locate(const uint16_t *points, size_t count)
 {
     return locate_lengths(points, 2 * count, count);
+}
+
+static void lend_slots(size_t slots_len)
+{
+    uint64_t from = chance();
+    size_t i;
+    int k;
+
+    for (k = 0; k < 2; k++) {
+        take_back(&lists.slots[k]);
+        lend_memory(&lists.slots[k], slots_len);
+        for (i = 0; i < slots_len; i++)
+            lists.slots[k].entries[i] = (uint16_t)(from + 40503 * i);
+    }
+}
+
+uint64_t window(uint16_t west, uint16_t south, uint16_t east, uint16_t north, size_t slots_len)
+{
+    uint64_t library, plain;
+
+    snprintf(doing, sizeof doing, "window west %u south %u east %u north %u, a list of %zu", west, south, east, north,
+             slots_len);
+    lend_slots(slots_len);
+    library = boundary_map_window(LIBRARY_TABLES, west, south, east, north, lists.slots[0].entries, slots_len);
+    plain = plain_window(&map.plain, west, south, east, north, lists.slots[1].entries, slots_len);
+    compare_all(library, plain);
+    if (!same_lent(&lists.slots[0], &lists.slots[1]))
+        compare_lent("the list of slots", &lists.slots[0], &lists.slots[1]);
+    return plain;
+}
+
+int window_told(uint16_t slot, size_t count)
+{
+    size_t i;
+
+    for (i = 0; i < count; i++)
+        if (lists.slots[1].entries[i] == slot)
+            return 1;
+    return 0;
 }
 
 /* Parts */

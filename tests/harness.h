@@ -1,5 +1,5 @@
 /* Every call made twice, of the library on its own tables and of the plain search on copies of them, and every
- * entry compared afterwards: the number given back, all three tables, both lists, and the guard words that stand
+ * entry compared afterwards: the number given back, all three tables, the lists, and the guard words that stand
  * before and behind each. The first difference is printed and ends the part of the test that was running. */
 #ifndef TESTS_HARNESS_H
 #define TESTS_HARNESS_H
@@ -46,6 +46,10 @@ uint64_t delete_handle(uint32_t handle);
 uint64_t locate_lengths(const uint16_t *points, size_t points_len, size_t answers_len);
 /* A list of so many points. */
 uint64_t locate(const uint16_t *points, size_t count);
+/* With a list of this length, which holds noise before. */
+uint64_t window(uint16_t west, uint16_t south, uint16_t east, uint16_t north, size_t slots_len);
+/* Whether the last window, which was done and told so many lines, told the line of this slot. */
+int window_told(uint16_t slot, size_t count);
 
 /* Makes the tree of whatever the live slots say, on both sides, with no call; 0 if it does not fit. */
 int rebuild(void);
@@ -65,9 +69,12 @@ enum { ANSWER_NONE, ANSWER_LABEL, ANSWER_ON_LINE, ANSWER_OFF_GRID, ANSWERS };
 /* How many numbers a kind of conflict can have, with 0 for no conflict. */
 enum { KINDS = 5 };
 
+/* How many numbers a refusal can have, with 0 for done. */
+enum { REFUSALS = 11 };
+
 extern struct met {
     uint64_t calls;
-    uint64_t refusals[9];                /* how often each number from 0 to 8 came back */
+    uint64_t refusals[REFUSALS];         /* how often each number from 0 to 10 came back */
     uint64_t kinds[KINDS];               /* of the refusals 5, how often each kind from 1 to 4 was told */
     uint64_t answers[ANSWERS];           /* of locate, by kind */
     uint64_t sound_calls, live_lines;    /* calls on sound maps, and the lines these had, summed up */

@@ -1,6 +1,6 @@
 /* The installed header beside the library that is linked: it declares the calls as the tests do, or this does not
- * compile; both are of one version; its check of a map tells a sound one from a damaged one; it tells how lines conflict;
- * and a map lent longer goes on. */
+ * compile; both are of one version; its check of a map tells a sound one from a damaged one; it tells how lines conflict
+ * and why a window is refused; and a map lent longer goes on. */
 #include "library.h"
 
 #include "../include/boundary_map.h"
@@ -17,7 +17,7 @@ static struct boundary_map map = { lines, BOUNDARY_MAP_LINES_LEN(2), nodes, 64, 
 static void version(void)
 {
     EXPECT(boundary_map_version() == BOUNDARY_MAP_VERSION_NUMBER);
-    EXPECT(BOUNDARY_MAP_VERSION_NUMBER == 3000);
+    EXPECT(BOUNDARY_MAP_VERSION_NUMBER == 4000);
 }
 
 static void check_tells(void)
@@ -92,6 +92,25 @@ static void conflicts_told(void)
     conflict_told(16383, 8000, 0, 8000, BOUNDARY_MAP_SAME, "is the same as");
 }
 
+/* The level line across the map is in slot 0; the entry that was not asked for stays. */
+static void windows_told(void)
+{
+    uint16_t slots[2] = { 70, 71 };
+    uint64_t r = boundary_map_window(BOUNDARY_MAP_LENT(&map), 5, 8000, 9, 9000, slots, 2);
+
+    EXPECT(boundary_map_refusal(r) == BOUNDARY_MAP_DONE);
+    EXPECT(boundary_map_detail(r) == 1);
+    EXPECT(slots[0] == 0 && slots[1] == 71);
+    r = boundary_map_window(BOUNDARY_MAP_LENT(&map), 5, 9000, 9, 8000, slots, 2);
+    EXPECT(boundary_map_refusal(r) == BOUNDARY_MAP_BAD_WINDOW);
+    EXPECT(strncmp(boundary_map_errstr(BOUNDARY_MAP_BAD_WINDOW), "bad window: ", 12) == 0);
+    r = boundary_map_window(BOUNDARY_MAP_LENT(&map), 0, 0, 16383, 16383, slots, 0);
+    EXPECT(boundary_map_refusal(r) == BOUNDARY_MAP_LIST_SHORT);
+    EXPECT(strncmp(boundary_map_errstr(BOUNDARY_MAP_LIST_SHORT), "list short: ", 12) == 0);
+    EXPECT(boundary_map_detail(r) == 0);
+    EXPECT(slots[0] == 0 && slots[1] == 71);
+}
+
 int main(void)
 {
     version();
@@ -99,6 +118,7 @@ int main(void)
     after_damage();
     label_changed();
     conflicts_told();
+    windows_told();
     lent_longer();
     return tallied(PART);
 }

@@ -91,7 +91,7 @@ static void draw_in_yard(struct stroke *s)
 
 /* Pairs */
 
-static int lies_on(uint16_t x, uint16_t y, const struct stroke *s)
+int lies_on(uint16_t x, uint16_t y, const struct stroke *s)
 {
     int64_t dx = s->x2 - s->x1, dy = s->y2 - s->y1, to_x = x - s->x1, to_y = y - s->y1;
     int64_t along = dx * to_x + dy * to_y;
@@ -175,6 +175,8 @@ void part_pairs(void)
         if (!has_length(&b))
             continue;
         put_all_ways(&a, &b);
+        if (one_in(4))
+            ask_window();
         pairs--;
     }
 }
@@ -216,6 +218,7 @@ static void ask_yard(void)
             in_row(&s.x2, &s.y2, 3);
         }
         ask_one_after_another(&s);
+        ask_window();
     }
 }
 

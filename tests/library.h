@@ -17,6 +17,10 @@ uint64_t boundary_map_locate(const uint16_t *lines, size_t lines_len, const uint
                              size_t nodes_len, const uint16_t *listings, size_t listings_len,
                              const uint16_t *points, size_t points_len, uint32_t *answers,
                              size_t answers_len);
+uint64_t boundary_map_window(const uint16_t *lines, size_t lines_len, const uint16_t *nodes,
+                             size_t nodes_len, const uint16_t *listings, size_t listings_len, uint16_t west,
+                             uint16_t south, uint16_t east, uint16_t north, uint16_t *slots,
+                             size_t slots_len);
 uint32_t boundary_map_version(void);
 
 #endif

@@ -23,7 +23,9 @@ enum {
     CONFLICT = 5,
     NO_SLOT = 6,
     NO_ROOM = 7,
-    UNKNOWN_HANDLE = 8
+    UNKNOWN_HANDLE = 8,
+    BAD_WINDOW = 9,
+    LIST_SHORT = 10
 };
 
 static uint64_t answer(uint64_t refusal, uint64_t detail)
@@ -205,32 +207,52 @@ static enum kind kind_of(const struct plain_line *a, const struct plain_line *b)
     }
 }
 
-/* Blocks, with their sides and corners */
+/* Rectangles and blocks, with their sides and corners */
+
+struct rectangle {
+    int64_t west, south, east, north;
+};
 
 struct block {
     int64_t west, south, side;
 };
+
+static struct rectangle ground_of(struct block b)
+{
+    struct rectangle r;
+
+    r.west = b.west;
+    r.south = b.south;
+    r.east = b.west + b.side;
+    r.north = b.south + b.side;
+    return r;
+}
 
 static int holds(struct block b, struct plain_place at)
 {
     return b.west <= at.x && at.x <= b.west + b.side && b.south <= at.y && at.y <= b.south + b.side;
 }
 
-/* Over the x that line and block share the heights run without a gap from the one border's to the other's. */
-static int meets(const struct plain_line *l, struct block b)
+/* The line is cut to the x that it shares with the rectangle: over them its heights run without a gap from the one
+ * border's to the other's, and some height is not below the south side nor above the north one. */
+static int enters(const struct plain_line *l, struct rectangle r)
 {
-    int64_t from = most(l->west.x, b.west), to = least(l->east.x, b.west + b.side);
-    int64_t north = b.south + b.side;
+    int64_t from = most(l->west.x, r.west), to = least(l->east.x, r.east);
     struct fraction first, last;
 
-    if (from > to || least(l->west.y, l->east.y) > north || most(l->west.y, l->east.y) < b.south)
+    if (from > to || least(l->west.y, l->east.y) > r.north || most(l->west.y, l->east.y) < r.south)
         return 0;
     if (upright(l))
         return 1;
     first = height(l, from);
     last = height(l, to);
-    return (compare_whole(first, b.south) >= 0 || compare_whole(last, b.south) >= 0)
-        && (compare_whole(first, north) <= 0 || compare_whole(last, north) <= 0);
+    return (compare_whole(first, r.south) >= 0 || compare_whole(last, r.south) >= 0)
+        && (compare_whole(first, r.north) <= 0 || compare_whole(last, r.north) <= 0);
+}
+
+static int meets(const struct plain_line *l, struct block b)
+{
+    return enters(l, ground_of(b));
 }
 
 /* C1: at most one distinct end. It is handed back if there is one. */
@@ -672,4 +694,49 @@ uint64_t plain_locate(struct plain *p, const uint16_t *points, size_t points_len
     for (i = 0; i < answers_len; i++)
         answers[i] = locate_one(p, points[2 * i], points[2 * i + 1]);
     return answer(DONE, 0);
+}
+
+/* Window */
+
+static struct rectangle on_ground(uint16_t west, uint16_t south, uint16_t east, uint16_t north)
+{
+    struct plain_place low = on_half_steps(west, south), high = on_half_steps(east, north);
+    struct rectangle r;
+
+    r.west = low.x;
+    r.south = low.y;
+    r.east = high.x;
+    r.north = high.y;
+    return r;
+}
+
+/* The slots of the lines that enter it, as the list has them: rising. */
+static size_t slots_within(const struct plain *p, struct rectangle r, uint16_t *found)
+{
+    size_t i, count = 0;
+
+    for (i = 0; i < p->count; i++)
+        if (enters(&p->list[i], r))
+            found[count++] = p->list[i].slot;
+    return count;
+}
+
+uint64_t plain_window(struct plain *p, uint16_t west, uint16_t south, uint16_t east, uint16_t north,
+                      uint16_t *to, size_t to_len)
+{
+    uint16_t found[PLAIN_SLOTS];
+    size_t count;
+
+    if (!lengths_right(p))
+        return answer(LENGTHS, 0);
+    if (!plain_sound(p))
+        return answer(DAMAGED, 0);
+    if (off_grid(west, south, east, north) || west > east || south > north)
+        return answer(BAD_WINDOW, 0);
+    count = slots_within(p, on_ground(west, south, east, north), found);
+    if (count > to_len)
+        return answer(LIST_SHORT, 0);
+    if (count > 0)
+        memcpy(to, found, count * sizeof *to);
+    return answer(DONE, count);
 }

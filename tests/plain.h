@@ -49,13 +49,15 @@ void plain_forget(struct plain *p);
 /* 1 if the map is sound; its lengths must be right. */
 int plain_sound(struct plain *p);
 
-/* The four calls, answered with refusal x 4,294,967,296 + detail. */
+/* The five calls, answered with refusal x 4,294,967,296 + detail. */
 uint64_t plain_start(struct plain *p);
 uint64_t plain_insert(struct plain *p, uint16_t x1, uint16_t y1, uint16_t x2, uint16_t y2, uint16_t left,
                       uint16_t right);
 uint64_t plain_delete(struct plain *p, uint32_t handle);
 uint64_t plain_locate(struct plain *p, const uint16_t *points, size_t points_len, uint32_t *answers,
                       size_t answers_len);
+uint64_t plain_window(struct plain *p, uint16_t west, uint16_t south, uint16_t east, uint16_t north,
+                      uint16_t *to, size_t to_len);
 
 /* Writes node and listing tables for whatever the live slots say, sound or not, so that a test can make a map
  * with one fault and no other. 0, and nothing written, if they need more than was lent. */

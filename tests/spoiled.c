@@ -25,6 +25,8 @@ static void ask_all(void)
 
     draw_anyhow(&s);
     ask_points(4);
+    if (one_in(3))
+        ask_window();
     insert_stroke(&s);
     delete_handle(one_in(3) ? false_handle() : live_handle());
 }
@@ -77,6 +79,8 @@ void part_handles(void)
             delete_handle(false_handle());
         else if (one_in(4))
             start();                            /* old handles may be given again after it */
+        else if (one_in(4))
+            ask_window();
         else
             ask_points(4);
     }
@@ -182,6 +186,7 @@ static void ask_doubly_wrong(void)
     insert_stroke(&s);
     delete_handle(false_handle());
     ask_points(2);
+    ask_wrong_window();
 }
 
 /* Few slots and little room: a line may conflict, find no slot and find no room, all in one. */

@@ -15,6 +15,7 @@ static uint16_t lines[BOUNDARY_MAP_LINES_MAX], nodes[BOUNDARY_MAP_NODES_MAX], li
 static const struct boundary_map map = { lines, BOUNDARY_MAP_LINES_MAX, nodes, BOUNDARY_MAP_NODES_MAX,
                                          listings, BOUNDARY_MAP_LISTINGS_MAX };
 static unsigned ray_of[FAN_RAYS];
+static uint16_t slots[BOUNDARY_MAP_SLOTS_MAX];
 
 static void *all_calls(void *nothing)
 {
@@ -30,6 +31,9 @@ static void *all_calls(void *nothing)
     EXPECT(boundary_map_locate(BOUNDARY_MAP_LENT(&map), points, 4, answers, 2) == 0);
     EXPECT(boundary_map_is_on_line(answers[0]) && boundary_map_answer_slot(answers[0]) == FAN_RAYS);
     EXPECT(boundary_map_is_label(answers[1]));
+    EXPECT(boundary_map_window(BOUNDARY_MAP_LENT(&map), 0, 0, BOUNDARY_MAP_GRID_MAX, BOUNDARY_MAP_GRID_MAX, slots,
+                               BOUNDARY_MAP_SLOTS_MAX) == FAN_RAYS + 1);
+    EXPECT(slots[0] == 0 && slots[FAN_RAYS] == FAN_RAYS);
     EXPECT(boundary_map_delete(BOUNDARY_MAP_LENT(&map), boundary_map_handle(0, 1)) == 0);
     EXPECT(boundary_map_check(&map) == BOUNDARY_MAP_DONE);
     return nothing;

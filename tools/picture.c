@@ -16,11 +16,14 @@
 #define WIDTH 1180
 #define HEIGHT 966
 #define LEGEND_REGIONS 32
+#define LEGEND_WINDOWS 2 /* rows that windows take, of the regions' */
 
 #define FONT 10.0       /* of labels; smaller beside a short line */
 #define FONT_SMALL 7.5
 #define LABEL_LARGE 60.0 /* a shorter line has small labels */
 #define LABEL_ROOM 12.0  /* a still shorter one has no room for any */
+#define WINDOW_LEAST 5.0 /* a window of a segment is drawn so wide */
+#define WINDOW_POINT 9.0 /* and one of a point */
 
 static const char *const palette[] = {
     "#1b6ca8", "#c8553d", "#2e7d32", "#8e44ad", "#b07d00", "#00838f", "#d81b60", "#6d4c41", "#3949ab", "#7a9a01",
@@ -30,6 +33,8 @@ static const char *const palette[] = {
 #define OUTSIDE "#8a8a8a"
 #define ON_LINE "#ffd400"
 #define INK "#222222"
+#define WINDOW_STYLE "fill=\"#e91e63\" fill-opacity=\"0.06\" stroke=\"#c2185b\" stroke-width=\"1.2\" stroke-dasharray=\"5 3\""
+#define IN_WINDOW_STYLE "stroke=\"#e91e63\" stroke-opacity=\"0.35\" stroke-width=\"7\" stroke-linecap=\"round\""
 
 /* What a label has in this picture. */
 struct region {
@@ -41,7 +46,7 @@ struct region {
 struct picture {
   FILE *out;
   const struct replay *replay;
-  struct block window; /* in half-steps; need not be a block of the tree */
+  struct block view; /* the part shown, in half-steps; need not be a block of the tree */
   struct region regions[65536];
   size_t on_line, off_grid, unlabelled;
 };
@@ -52,9 +57,9 @@ struct spot {
 };
 
 static struct spot spot_of(const struct picture *p, uint32_t west, uint32_t south) {
-  double scale = DRAWN / p->window.side;
-  struct spot spot = {LEFT + MARGIN + ((double)west - p->window.west) * scale,
-                      TOP + PANE - MARGIN - ((double)south - p->window.south) * scale};
+  double scale = DRAWN / p->view.side;
+  struct spot spot = {LEFT + MARGIN + ((double)west - p->view.west) * scale,
+                      TOP + PANE - MARGIN - ((double)south - p->view.south) * scale};
   return spot;
 }
 
@@ -89,24 +94,28 @@ static struct extent extent_of(const struct replay *replay) {
   }
   for (size_t i = 0; i < replay->asked_count; i++)
     if (!boundary_map_is_off_grid(replay->asked[i].answer)) reach(&e, replay->asked[i].x, replay->asked[i].y);
+  for (size_t i = 0; i < replay->windows_count; i++) {
+    reach(&e, replay->windows[i].west, replay->windows[i].south);
+    reach(&e, replay->windows[i].east, replay->windows[i].north);
+  }
   return e;
 }
 
-/* The least place of a window of this side about the middle, kept on the map. */
+/* The least place of a view of this side about the middle, kept on the map. */
 static uint32_t placed(uint32_t low, uint32_t high, uint32_t side) {
   uint32_t middle = (low + high) / 2, from = middle < side / 2 ? 0 : middle - side / 2;
   return from > BOUNDARY_MAP_SIDE - side ? BOUNDARY_MAP_SIDE - side : from;
 }
 
-static struct block window_of(const struct replay *replay, int whole) {
+static struct block view_of(const struct replay *replay, int whole) {
   struct extent e = extent_of(replay);
   struct block all = {0, 0, BOUNDARY_MAP_SIDE};
   if (whole || e.east < e.west) return all;
   uint32_t across = e.east - e.west, up = e.north - e.south, side = across > up ? across : up;
   side += side / 6 + 8;
   if (side > BOUNDARY_MAP_SIDE / 2) return all;
-  struct block window = {placed(e.west, e.east, side), placed(e.south, e.north, side), side};
-  return window;
+  struct block view = {placed(e.west, e.east, side), placed(e.south, e.north, side), side};
+  return view;
 }
 
 /* Notes the labels of live lines and of answers, and ranks them. */
@@ -157,9 +166,9 @@ static void draw_head(const struct picture *p, const char *title) {
           PANE, PANE);
 }
 
-/* Blocks that do not touch the window, or are too small to see, are left out. */
+/* Blocks that do not touch the view, or are too small to see, are left out. */
 static int is_seen(const struct picture *p, struct block b) {
-  const struct block *w = &p->window;
+  const struct block *w = &p->view;
   return b.west <= w->west + w->side && w->west <= b.west + b.side && b.south <= w->south + w->side &&
          w->south <= b.south + b.side && b.side * DRAWN / w->side >= 2.0;
 }
@@ -171,7 +180,7 @@ static size_t draw_block(const struct picture *p, size_t node, struct block bloc
   if (is_seen(p, block)) {
     uint32_t half = block.side / 2;
     struct spot west = spot_of(p, block.west, block.south + half), south = spot_of(p, block.west + half, block.south);
-    double side = block.side * DRAWN / p->window.side;
+    double side = block.side * DRAWN / p->view.side;
     fprintf(p->out, "M%.1f %.1fh%.1fM%.1f %.1fv-%.1f\n", west.x, west.y, side, south.x, south.y, side);
   }
   for (int son = 0; son < 4; son++) node = draw_block(p, node, block_son(block, son));
@@ -181,7 +190,7 @@ static size_t draw_block(const struct picture *p, size_t node, struct block bloc
 static void draw_blocks(const struct picture *p) {
   struct block whole = {0, 0, BOUNDARY_MAP_SIDE};
   struct spot corner = spot_of(p, 0, BOUNDARY_MAP_SIDE);
-  double side = BOUNDARY_MAP_SIDE * DRAWN / p->window.side;
+  double side = BOUNDARY_MAP_SIDE * DRAWN / p->view.side;
   fprintf(p->out, "<path fill=\"none\" stroke=\"#cbd3da\" d=\"M%.1f %.1fh%.1fv%.1fh-%.1fz\n", corner.x, corner.y, side, side,
           side);
   draw_block(p, 0, whole);
@@ -192,7 +201,7 @@ static void draw_leaves(const struct picture *p) {
   for (size_t i = 0; i < p->replay->leaves_count; i++) {
     const struct leaf *leaf = &p->replay->leaves[i];
     struct spot corner = spot_of(p, leaf->block.west, leaf->block.south + leaf->block.side);
-    double side = leaf->block.side * DRAWN / p->window.side;
+    double side = leaf->block.side * DRAWN / p->view.side;
     fprintf(p->out,
             "<rect x=\"%.1f\" y=\"%.1f\" width=\"%.1f\" height=\"%.1f\" fill=\"#fff3c4\" stroke=\"#e0b000\">"
             "<title>leaf of side %lu at (%lu, %lu) half-steps, lists %zu</title></rect>\n",
@@ -212,6 +221,36 @@ static struct stroke stroke_of(const struct picture *p, size_t slot) {
       spot_of_grid(p, entry_of(map, slot, BOUNDARY_MAP_X1), entry_of(map, slot, BOUNDARY_MAP_Y1)),
       spot_of_grid(p, entry_of(map, slot, BOUNDARY_MAP_X2), entry_of(map, slot, BOUNDARY_MAP_Y2))};
   return stroke;
+}
+
+static void draw_window(const struct picture *p, const struct window *w) {
+  struct spot from = spot_of_grid(p, w->west, w->north), to = spot_of_grid(p, w->east, w->south);
+  double across = to.x - from.x, up = to.y - from.y;
+  double least = across < WINDOW_LEAST && up < WINDOW_LEAST ? WINDOW_POINT : WINDOW_LEAST;
+  double wide = across < least ? least : across, high = up < least ? least : up;
+  fprintf(p->out,
+          "<rect x=\"%.1f\" y=\"%.1f\" width=\"%.1f\" height=\"%.1f\"><title>window x %u to %u, y %u to %u: %lu %s</title></rect>\n",
+          from.x - (wide - across) / 2, from.y - (high - up) / 2, wide, high, w->west, w->east, w->south, w->north,
+          (unsigned long)w->count, w->count == 1 ? "line" : "lines");
+}
+
+/* Whether a window told the line; one that has come into the slot since then is another. */
+static int is_in_window(const struct replay *replay, size_t slot) {
+  return entry_of(&replay->map, slot, BOUNDARY_MAP_LIVE) &&
+         replay->in_window[slot] == entry_of(&replay->map, slot, BOUNDARY_MAP_GENERATION);
+}
+
+/* The lines that windows told have a broad stroke, under what is drawn later. */
+static void draw_windows(const struct picture *p) {
+  if (p->replay->windows_count == 0) return;
+  fputs("<path " IN_WINDOW_STYLE " d=\"", p->out);
+  for (size_t slot = 0; slot < slots_of(&p->replay->map); slot++) {
+    struct stroke s = stroke_of(p, slot);
+    if (is_in_window(p->replay, slot)) fprintf(p->out, "M%.1f %.1fL%.1f %.1f\n", s.a.x, s.a.y, s.b.x, s.b.y);
+  }
+  fputs("\"/>\n<g " WINDOW_STYLE ">\n", p->out);
+  for (size_t i = 0; i < p->replay->windows_count; i++) draw_window(p, &p->replay->windows[i]);
+  fputs("</g>\n", p->out);
 }
 
 static void draw_line(const struct picture *p, size_t slot) {
@@ -312,6 +351,17 @@ static void legend_mark(const struct picture *p, double y, uint32_t answer) {
   end_mark(p, answer);
 }
 
+/* What windows look like, and the lines in them. */
+static void legend_windows(const struct picture *p, double *y) {
+  size_t lines = 0;
+  for (size_t slot = 0; slot < slots_of(&p->replay->map); slot++) lines += (size_t)is_in_window(p->replay, slot);
+  fprintf(p->out, "<rect x=\"%.0f\" y=\"%.0f\" width=\"18\" height=\"14\" " WINDOW_STYLE "/>\n", LEGEND + 1, *y - 7);
+  legend_text(p, y, "a window: %zu asked", p->replay->windows_count);
+  fprintf(p->out, "<path d=\"M%.0f %.0fh14\" " IN_WINDOW_STYLE "/>\n", LEGEND + 3, *y);
+  fprintf(p->out, "<path d=\"M%.0f %.0fh14\" stroke=\"" INK "\" stroke-width=\"1.6\"/>\n", LEGEND + 3, *y);
+  legend_text(p, y, "a line in a window: %zu", lines);
+}
+
 /* What the lines, blocks and leaves look like. */
 static void legend_map(const struct picture *p, double *y) {
   fprintf(p->out, "<path d=\"M%.0f %.0fh20\" stroke=\"" INK "\" stroke-width=\"1.6\"/>\n", LEGEND, *y);
@@ -320,6 +370,7 @@ static void legend_map(const struct picture *p, double *y) {
   fprintf(p->out, "<rect x=\"%.0f\" y=\"%.0f\" width=\"14\" height=\"14\" fill=\"none\" stroke=\"#b4bcc4\"/>\n", LEGEND + 3,
           *y - 7);
   legend_text(p, y, "a block of the tree");
+  if (p->replay->windows_count > 0) legend_windows(p, y);
   if (p->replay->leaves_count == 0) return;
   fprintf(p->out, "<rect x=\"%.0f\" y=\"%.0f\" width=\"14\" height=\"14\" fill=\"#fff3c4\" stroke=\"#e0b000\"/>\n", LEGEND + 3,
           *y - 7);
@@ -328,10 +379,10 @@ static void legend_map(const struct picture *p, double *y) {
 
 /* What the regions' points look like, as many as there is room for. */
 static void legend_regions(const struct picture *p, double *y) {
-  size_t shown = 0, more = 0;
+  size_t shown = 0, more = 0, most = LEGEND_REGIONS - (p->replay->windows_count > 0 ? LEGEND_WINDOWS : 0);
   for (size_t label = 1; label < 65536; label++) {
     if (!p->regions[label].seen) continue;
-    if (shown == LEGEND_REGIONS) {
+    if (shown == most) {
       more++;
       continue;
     }
@@ -373,9 +424,9 @@ static void draw_legend(const struct picture *p) {
   fputs("</g>\n", p->out);
 }
 
-/* The pane's frame, and under it which grid numbers the window holds. */
+/* The pane's frame, and under it which grid numbers the view holds. */
 static void draw_frame(const struct picture *p) {
-  const struct block *w = &p->window;
+  const struct block *w = &p->view;
   fprintf(p->out, "<rect x=\"%.0f\" y=\"%.0f\" width=\"%.0f\" height=\"%.0f\" fill=\"none\" stroke=\"#9aa3ac\"/>\n", LEFT, TOP,
           PANE, PANE);
   fprintf(p->out,
@@ -390,12 +441,13 @@ void picture_draw(FILE *out, const struct replay *replay, const char *title, int
   memset(p, 0, sizeof *p);
   p->out = out;
   p->replay = replay;
-  p->window = window_of(replay, whole);
+  p->view = view_of(replay, whole);
   note_regions(p);
   draw_head(p, title);
   fputs("<g clip-path=\"url(#pane)\">\n", out);
   draw_leaves(p);
   draw_blocks(p);
+  draw_windows(p);
   draw_lines(p);
   draw_points(p);
   fputs("</g>\n", out);

@@ -7,8 +7,8 @@
 #include "replay.h"
 
 /* Draws the last map: lines with the labels on their sides, blocks, and the
-** points and leaves asked. The window is the part of the map that is used, or
-** with whole set the whole map. */
+** points, leaves and windows asked. It shows the part of the map that is used,
+** or with whole set the whole map. */
 void picture_draw(FILE *out, const struct replay *replay, const char *title, int whole);
 
 #endif

@@ -9,26 +9,32 @@ int replay_prepare(struct replay *replay, const struct script *script) {
   memset(replay, 0, sizeof *replay);
   replay->asked = calloc(points, sizeof *replay->asked);
   replay->leaves = calloc(script->count + 1, sizeof *replay->leaves);
+  replay->windows = calloc(script->count + 1, sizeof *replay->windows);
   replay->points = calloc(2 * points, sizeof *replay->points);
   replay->answers = calloc(points, sizeof *replay->answers);
-  return replay->asked != NULL && replay->leaves != NULL && replay->points != NULL && replay->answers != NULL;
+  return replay->asked != NULL && replay->leaves != NULL && replay->windows != NULL && replay->points != NULL &&
+         replay->answers != NULL;
 }
 
 void replay_free(struct replay *replay) {
   free(replay->asked);
   free(replay->leaves);
+  free(replay->windows);
   free(replay->points);
   free(replay->answers);
 }
 
-/* Which line is in the way, and how. A refusal changes nothing, so its ends are
+/* A live line by its slot, with the ends that the lent table has. */
+static void print_line(const struct boundary_map *map, size_t slot, FILE *out) {
+  fprintf(out, "the line of slot %zu, (%u, %u)-(%u, %u)", slot, entry_of(map, slot, BOUNDARY_MAP_X1),
+          entry_of(map, slot, BOUNDARY_MAP_Y1), entry_of(map, slot, BOUNDARY_MAP_X2), entry_of(map, slot, BOUNDARY_MAP_Y2));
+}
+
+/* Which line is in the way, and how. A refusal changes nothing, so the line is
 ** still in the lent table. */
 static void print_conflict(const struct boundary_map *map, uint32_t detail, FILE *out) {
-  uint32_t slot = boundary_map_conflict_slot(detail);
-  fprintf(out, "refused %d, conflict: %s the line of slot %lu, (%u, %u)-(%u, %u)", BOUNDARY_MAP_CONFLICT,
-          boundary_map_kindstr(boundary_map_conflict_kind(detail)), (unsigned long)slot,
-          entry_of(map, slot, BOUNDARY_MAP_X1), entry_of(map, slot, BOUNDARY_MAP_Y1),
-          entry_of(map, slot, BOUNDARY_MAP_X2), entry_of(map, slot, BOUNDARY_MAP_Y2));
+  fprintf(out, "refused %d, conflict: %s ", BOUNDARY_MAP_CONFLICT, boundary_map_kindstr(boundary_map_conflict_kind(detail)));
+  print_line(map, boundary_map_conflict_slot(detail), out);
 }
 
 /* Prints what every answer has, and counts it. Answers whether it is done. */
@@ -50,7 +56,8 @@ static void print_handle(uint32_t handle, FILE *out) {
 static void start(struct replay *replay, const uint32_t *n, FILE *out) {
   const struct boundary_map *map = &replay->map;
   replay->map = lend(&replay->room, n[0], n[1], n[2]);
-  replay->asked_count = replay->leaves_count = 0;
+  replay->asked_count = replay->leaves_count = replay->windows_count = 0;
+  memset(replay->in_window, 0, sizeof replay->in_window);
   memset(replay->refused, 0, sizeof replay->refused);
   fprintf(out, "slots %zu, nodes %zu, listings %zu: ", slots_of(map), map->nodes_len, map->listings_len);
   told(replay, boundary_map_start(BOUNDARY_MAP_LENT(map)), out);
@@ -104,6 +111,32 @@ static void locate(struct replay *replay, const uint32_t *n, size_t count, FILE 
   }
 }
 
+/* Notes the lines that a window told, by what a line in the slot later cannot
+** have: the generation. */
+static void note_window(struct replay *replay, struct window window, FILE *out) {
+  replay->windows[replay->windows_count++] = window;
+  for (uint32_t i = 0; i < window.count; i++) {
+    size_t slot = replay->slots[i];
+    replay->in_window[slot] = entry_of(&replay->map, slot, BOUNDARY_MAP_GENERATION);
+    fputs("              ", out);
+    print_line(&replay->map, slot, out);
+    fputc('\n', out);
+  }
+}
+
+/* The list has an entry for every slot there can be, so it is never short. */
+static void window(struct replay *replay, const uint32_t *n, FILE *out) {
+  struct window asked = {(uint16_t)n[0], (uint16_t)n[1], (uint16_t)n[2], (uint16_t)n[3], 0};
+  fprintf(out, "x %u to %u, y %u to %u: ", asked.west, asked.east, asked.south, asked.north);
+  uint64_t answer = boundary_map_window(BOUNDARY_MAP_LENT(&replay->map), asked.west, asked.south, asked.east, asked.north,
+                                        replay->slots, BOUNDARY_MAP_SLOTS_MAX);
+  int done = told(replay, answer, out);
+  asked.count = boundary_map_detail(answer);
+  if (done) fprintf(out, ", %lu %s", (unsigned long)asked.count, asked.count == 1 ? "line" : "lines");
+  fputc('\n', out);
+  if (done) note_window(replay, asked, out);
+}
+
 /* Show leaf does not cross the C boundary: the host has the tables in its
 ** hands and reads them, with the library's own number for a point off the grid. */
 static void leaf(struct replay *replay, const uint32_t *n, FILE *out) {
@@ -147,6 +180,7 @@ static void run(struct replay *replay, const struct script *script, const struct
     case INSERT: insert(replay, n, out); break;
     case DELETE: delete(replay, n[0], out); break;
     case LOCATE: locate(replay, n, command->count, out); break;
+    case WINDOW: window(replay, n, out); break;
     case LEAF: leaf(replay, n, out); break;
   }
 }

@@ -13,6 +13,12 @@ struct asked {
   uint32_t answer;
 };
 
+/* A window asked, and how many lines met it at the time. */
+struct window {
+  uint16_t west, south, east, north;
+  uint32_t count;
+};
+
 /* What a replay leaves: the last map, and what was asked of it, for drawing. */
 struct replay {
   struct room room;
@@ -21,9 +27,13 @@ struct replay {
   size_t asked_count;
   struct leaf *leaves;
   size_t leaves_count;
+  struct window *windows;
+  size_t windows_count;
+  uint16_t in_window[BOUNDARY_MAP_SLOTS_MAX]; /* by slot, the generation of the line that a window told last; 0 none */
   size_t refused[BOUNDARY_MAP_REFUSAL_MAX + 1];
   uint16_t *points;
   uint32_t *answers;
+  uint16_t slots[BOUNDARY_MAP_SLOTS_MAX];
 };
 
 /* Has all memory that the script will need, so that a replay is never left in

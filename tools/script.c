@@ -25,6 +25,7 @@ static const struct shape shapes[] = {
   [INSERT] = {"insert", 6, 6, "6 numbers: x1 y1 x2 y2 LEFT RIGHT", {0, 0, 0}, {65535, 65535, 65535}},
   [DELETE] = {"delete", 1, 1, "1 handle: a number, or SLOT:GENERATION", {0, 0, 0}, {UINT32_MAX, 0, 0}},
   [LOCATE] = {"locate", 2, ANY, "pairs of numbers: x y [x y ...]", {0, 0, 0}, {65535, 65535, 65535}},
+  [WINDOW] = {"window", 4, 4, "4 numbers: WEST SOUTH EAST NORTH", {0, 0, 0}, {65535, 65535, 65535}},
   [LEAF] = {"leaf", 2, 2, "2 numbers: x y", {0, 0, 0}, {65535, 65535, 65535}}
 };
 
@@ -144,7 +145,7 @@ static int read_line(const struct reader *reader, const char *at, const char *en
   size_t count;
   if (word.length == 0) return 1;
   const struct shape *shape = shape_of(word);
-  if (shape == NULL) return bad(reader, word, "is no command; the commands are map, insert, delete, locate and leaf");
+  if (shape == NULL) return bad(reader, word, "is no command; the commands are map, insert, delete, locate, window and leaf");
   if (!read_numbers(reader, shape, at, end, &count)) return 0;
   if (count < shape->least || count > shape->most || (shape->most == ANY && count % 2 != 0))
     return bad_count(reader, shape, count);

@@ -6,7 +6,7 @@
 #include <stdint.h>
 #include <stdio.h>
 
-enum kind { MAP, INSERT, DELETE, LOCATE, LEAF };
+enum kind { MAP, INSERT, DELETE, LOCATE, WINDOW, LEAF };
 
 /* One command. Its numbers are numbers[first] on, in the script's one list. */
 struct command {

@@ -21,6 +21,13 @@ struct lists {
     size_t points_len, answers_len;
 };
 
+/* A rectangle, and the list to be filled. */
+struct window {
+    uint16_t west, south, east, north;
+    uint16_t *slots;
+    size_t slots_len;
+};
+
 /* The true calls */
 
 uint64_t __real_boundary_map_start(uint16_t *, size_t, uint16_t *, size_t, uint16_t *, size_t);
@@ -29,6 +36,8 @@ uint64_t __real_boundary_map_insert(uint16_t *, size_t, uint16_t *, size_t, uint
 uint64_t __real_boundary_map_delete(uint16_t *, size_t, uint16_t *, size_t, uint16_t *, size_t, uint32_t);
 uint64_t __real_boundary_map_locate(const uint16_t *, size_t, const uint16_t *, size_t, const uint16_t *,
                                     size_t, const uint16_t *, size_t, uint32_t *, size_t);
+uint64_t __real_boundary_map_window(const uint16_t *, size_t, const uint16_t *, size_t, const uint16_t *, size_t,
+                                    uint16_t, uint16_t, uint16_t, uint16_t, uint16_t *, size_t);
 uint32_t __real_boundary_map_version(void);
 
 static uint64_t start(struct tables t)
@@ -52,6 +61,12 @@ static uint64_t locate(struct tables t, struct lists s)
 {
     return __real_boundary_map_locate(t.lines, t.lines_len, t.nodes, t.nodes_len, t.listings, t.listings_len,
                                       s.points, s.points_len, s.answers, s.answers_len);
+}
+
+static uint64_t window(struct tables t, struct window w)
+{
+    return __real_boundary_map_window(t.lines, t.lines_len, t.nodes, t.nodes_len, t.listings, t.listings_len,
+                                      w.west, w.south, w.east, w.north, w.slots, w.slots_len);
 }
 
 static uint64_t refusal(uint64_t result)
@@ -698,6 +713,250 @@ static uint64_t damage_before_list_length(struct tables t, struct lists s)
     return refusal(locate(t, none)) == 2 ? refuse(2) : locate(t, s);
 }
 
+/* Window */
+
+enum { MOST_SLOTS = 1024 };
+
+/* The slots of a window, of which some are to be left out or put in before they are told: the answer to a list long
+ * enough, and what is told of it. */
+static struct {
+    uint64_t result;
+    uint16_t slots[MOST_SLOTS + 1];
+    size_t count;
+} found;
+
+static void find(struct tables t, struct window w)
+{
+    w.slots = found.slots;
+    w.slots_len = MOST_SLOTS;
+    found.result = window(t, w);
+    found.count = refusal(found.result) == 0 ? (size_t)found.result : 0;
+}
+
+/* What was found, told as a call does. */
+static uint64_t tell(struct window w)
+{
+    if (refusal(found.result) != 0)
+        return found.result;
+    if (found.count > w.slots_len)
+        return refuse(10);
+    memcpy(w.slots, found.slots, found.count * sizeof *w.slots);
+    return found.count;
+}
+
+/* Leaves out the lines of which this holds. */
+static uint64_t window_without(struct tables t, struct window w,
+                               int (*left_out)(const uint16_t *, const struct window *))
+{
+    size_t i, kept = 0;
+
+    find(t, w);
+    for (i = 0; i < found.count; i++)
+        if (!left_out(slot_at(t, found.slots[i]), &w))
+            found.slots[kept++] = found.slots[i];
+    found.count = kept;
+    return tell(w);
+}
+
+static int is_east_of_inside(const uint16_t *l, const struct window *w)
+{
+    return w->west < w->east && l[X1] >= w->east && l[X2] >= w->east;
+}
+
+static uint64_t east_side_left_off(struct tables t, struct window w)
+{
+    return window_without(t, w, is_east_of_inside);
+}
+
+static long long turn(const uint16_t *l, long long x, long long y)
+{
+    return ((long long)l[X2] - l[X1]) * (y - l[Y1]) - ((long long)l[Y2] - l[Y1]) * (x - l[X1]);
+}
+
+/* Three corners on one side of the line's straight line, and the fourth on it. */
+static int has_one_corner(const uint16_t *l, const struct window *w)
+{
+    const long long turns[4] = { turn(l, w->west, w->south), turn(l, w->east, w->south), turn(l, w->west, w->north),
+                                 turn(l, w->east, w->north) };
+    int left = 0, right = 0, i;
+
+    for (i = 0; i < 4; i++) {
+        left += turns[i] > 0;
+        right += turns[i] < 0;
+    }
+    return (left == 3 && right == 0) || (left == 0 && right == 3);
+}
+
+static uint64_t corner_left_off(struct tables t, struct window w)
+{
+    return window_without(t, w, has_one_corner);
+}
+
+static int has_no_end_inside(const uint16_t *l, const struct window *w)
+{
+    return !(w->west <= l[X1] && l[X1] <= w->east && w->south <= l[Y1] && l[Y1] <= w->north)
+        && !(w->west <= l[X2] && l[X2] <= w->east && w->south <= l[Y2] && l[Y2] <= w->north);
+}
+
+static uint64_t lines_right_across_left_out(struct tables t, struct window w)
+{
+    return window_without(t, w, has_no_end_inside);
+}
+
+/* Tells the live lines of which this holds. */
+static uint64_t window_with(struct tables t, struct window w, int (*taken)(const uint16_t *, const struct window *))
+{
+    size_t i;
+
+    find(t, w);
+    found.count = 0;
+    for (i = 0; refusal(found.result) == 0 && i < slots(t); i++)
+        if (slot_at(t, i)[LIVE] == 1 && taken(slot_at(t, i), &w))
+            found.slots[found.count++] = (uint16_t)i;
+    return tell(w);
+}
+
+static int box_meets(const uint16_t *l, const struct window *w)
+{
+    return (l[X1] >= w->west || l[X2] >= w->west) && (l[X1] <= w->east || l[X2] <= w->east)
+        && (l[Y1] >= w->south || l[Y2] >= w->south) && (l[Y1] <= w->north || l[Y2] <= w->north);
+}
+
+static uint64_t boxes_alone(struct tables t, struct window w)
+{
+    return window_with(t, w, box_meets);
+}
+
+/* The line stands at half-steps 2g + 1, the rectangle at 2g. */
+static int meets_half_a_step_off(const uint16_t *l, const struct window *w)
+{
+    const uint16_t line[8] = { 1, 1, (uint16_t)(2 * l[X1] + 1), (uint16_t)(2 * l[Y1] + 1), (uint16_t)(2 * l[X2] + 1),
+                               (uint16_t)(2 * l[Y2] + 1), 0, 0 };
+    const struct window r = { (uint16_t)(2 * w->west), (uint16_t)(2 * w->south), (uint16_t)(2 * w->east),
+                              (uint16_t)(2 * w->north), NULL, 0 };
+    const long long sw = turn(line, r.west, r.south), se = turn(line, r.east, r.south),
+                    nw = turn(line, r.west, r.north), ne = turn(line, r.east, r.north);
+
+    return box_meets(line, &r) && !(sw > 0 && se > 0 && nw > 0 && ne > 0) && !(sw < 0 && se < 0 && nw < 0 && ne < 0);
+}
+
+static uint64_t half_a_step_off(struct tables t, struct window w)
+{
+    return window_with(t, w, meets_half_a_step_off);
+}
+
+static uint64_t one_step_too_far_north(struct tables t, struct window w)
+{
+    if (w.south <= w.north && w.north < LAST_GRID)
+        w.north++;
+    return window(t, w);
+}
+
+static uint64_t written_as_far_as_it_goes(struct tables t, struct window w)
+{
+    uint64_t result = window(t, w);
+
+    if (refusal(result) != 10)
+        return result;
+    find(t, w);
+    memcpy(w.slots, found.slots, w.slots_len * sizeof *w.slots);
+    return result;
+}
+
+static uint64_t entry_after_last_cleared(struct tables t, struct window w)
+{
+    uint64_t result = window(t, w);
+
+    if (refusal(result) == 0 && (size_t)result < w.slots_len)
+        w.slots[result] = 0;
+    return result;
+}
+
+static uint64_t inverted_turned_round(struct tables t, struct window w)
+{
+    uint16_t was = w.west;
+
+    if (w.west <= w.east)
+        return window(t, w);
+    w.west = w.east;
+    w.east = was;
+    return window(t, w);
+}
+
+static uint64_t off_grid_cut_to_grid(struct tables t, struct window w)
+{
+    if (w.east == LAST_GRID + 1)
+        w.east = LAST_GRID;
+    return window(t, w);
+}
+
+static uint64_t told_falling(struct tables t, struct window w)
+{
+    uint64_t result = window(t, w);
+    uint16_t was;
+
+    if (refusal(result) != 0 || result < 3)
+        return result;
+    was = w.slots[result - 1];
+    w.slots[result - 1] = w.slots[result - 2];
+    w.slots[result - 2] = was;
+    return result;
+}
+
+static uint64_t last_told_twice(struct tables t, struct window w)
+{
+    find(t, w);
+    if (found.count > 2 && found.count < MOST_SLOTS) {
+        found.slots[found.count] = found.slots[found.count - 1];
+        found.count++;
+    }
+    return tell(w);
+}
+
+static uint64_t exact_list_is_short(struct tables t, struct window w)
+{
+    find(t, w);
+    if (refusal(found.result) == 0 && found.count > 0 && found.count == w.slots_len)
+        return refuse(10);
+    return tell(w);
+}
+
+static uint64_t number_told_when_short(struct tables t, struct window w)
+{
+    uint64_t result = window(t, w);
+
+    if (refusal(result) != 10)
+        return result;
+    find(t, w);
+    return result + found.count;
+}
+
+static uint64_t bad_window_before_damage(struct tables t, struct window w)
+{
+    uint64_t result = window(t, w);
+
+    return refusal(result) == 2 && (w.west > w.east || w.south > w.north) ? refuse(9) : result;
+}
+
+static uint64_t short_before_bad_window(struct tables t, struct window w)
+{
+    uint64_t result = window(t, w);
+
+    return refusal(result) == 9 && w.slots_len == 0 ? refuse(10) : result;
+}
+
+static uint64_t rest_of_nodes_unread(struct tables t, struct window w)
+{
+    struct tables c = copy_of(t);
+    size_t listed = 0, at;
+
+    if (t.nodes_len == 0)
+        return window(t, w);
+    for (at = past_block(c, 0, &listed); at < c.nodes_len; at++)
+        c.nodes[at] = 0;
+    return window(c, w);
+}
+
 /* Start */
 
 static uint64_t leaves_generations(struct tables t)
@@ -737,13 +996,15 @@ struct planted {
     uint64_t (*insert)(struct tables, const uint16_t *);
     uint64_t (*remove)(struct tables, uint32_t);
     uint64_t (*locate)(struct tables, struct lists);
+    uint64_t (*window)(struct tables, struct window);
 };
 
-#define ON_START(f) __real_boundary_map_version, f, insert, delete_handle, locate
-#define ON_INSERT(f) __real_boundary_map_version, start, f, delete_handle, locate
-#define ON_DELETE(f) __real_boundary_map_version, start, insert, f, locate
-#define ON_LOCATE(f) __real_boundary_map_version, start, insert, delete_handle, f
-#define ON_VERSION(f) f, start, insert, delete_handle, locate
+#define ON_START(f) __real_boundary_map_version, f, insert, delete_handle, locate, window
+#define ON_INSERT(f) __real_boundary_map_version, start, f, delete_handle, locate, window
+#define ON_DELETE(f) __real_boundary_map_version, start, insert, f, locate, window
+#define ON_LOCATE(f) __real_boundary_map_version, start, insert, delete_handle, f, window
+#define ON_WINDOW(f) __real_boundary_map_version, start, insert, delete_handle, locate, f
+#define ON_VERSION(f) f, start, insert, delete_handle, locate, window
 
 static const struct planted plants[] = {
     { "nothing", ON_VERSION(__real_boundary_map_version) },
@@ -786,6 +1047,23 @@ static const struct planted plants[] = {
     { "16,385 nodes taken", ON_LOCATE(one_node_too_many_taken) },
     { "an odd point list taken", ON_LOCATE(odd_list_rounded) },
     { "2 before 1 where a list's length is wrong", ON_LOCATE(damage_before_list_length) },
+    { "a line that ends on the east side left out", ON_WINDOW(east_side_left_off) },
+    { "a line that touches a corner left out", ON_WINDOW(corner_left_off) },
+    { "a line right across the window left out", ON_WINDOW(lines_right_across_left_out) },
+    { "a line told whose box alone meets the window", ON_WINDOW(boxes_alone) },
+    { "the window one step too far north", ON_WINDOW(one_step_too_far_north) },
+    { "the window half a step too far south-west", ON_WINDOW(half_a_step_off) },
+    { "a list that is short filled all the same", ON_WINDOW(written_as_far_as_it_goes) },
+    { "the entry after the last slot cleared", ON_WINDOW(entry_after_last_cleared) },
+    { "an inverted window turned round", ON_WINDOW(inverted_turned_round) },
+    { "a window to 16,384 taken", ON_WINDOW(off_grid_cut_to_grid) },
+    { "two slots of a window told falling", ON_WINDOW(told_falling) },
+    { "a slot of a window told twice", ON_WINDOW(last_told_twice) },
+    { "a list just long enough refused", ON_WINDOW(exact_list_is_short) },
+    { "the number told with refusal 10", ON_WINDOW(number_told_when_short) },
+    { "9 before 2", ON_WINDOW(bad_window_before_damage) },
+    { "10 before 9", ON_WINDOW(short_before_bad_window) },
+    { "garbage behind the last node not seen by a window", ON_WINDOW(rest_of_nodes_unread) },
     { "start leaves the generations", ON_START(leaves_generations) },
     { "start leaves the last node", ON_START(leaves_last_node) },
     { "the version of another header", ON_VERSION(another_version) },
@@ -845,6 +1123,18 @@ uint64_t __wrap_boundary_map_locate(const uint16_t *lines, size_t lines_len, con
     struct lists s = { points, answers, points_len, answers_len };
 
     return planted()->locate(t, s);
+}
+
+uint64_t __wrap_boundary_map_window(const uint16_t *lines, size_t lines_len, const uint16_t *nodes,
+                                    size_t nodes_len, const uint16_t *listings, size_t listings_len,
+                                    uint16_t west, uint16_t south, uint16_t east, uint16_t north,
+                                    uint16_t *to, size_t to_len)
+{
+    struct tables t = { (uint16_t *)(uintptr_t)lines, (uint16_t *)(uintptr_t)nodes,
+                        (uint16_t *)(uintptr_t)listings, lines_len, nodes_len, listings_len };
+    struct window w = { west, south, east, north, to, to_len };
+
+    return planted()->window(t, w);
 }
 
 uint32_t __wrap_boundary_map_version(void)

@@ -24,6 +24,9 @@ static void answers_of_calls(void) {
   WANT(boundary_map_refusal(UINT64_C(5) * 4294967296 + 1023) == BOUNDARY_MAP_CONFLICT);
   WANT(boundary_map_detail(UINT64_C(5) * 4294967296 + 1023) == 1023);
   WANT(boundary_map_refusal(UINT64_C(34359738368)) == BOUNDARY_MAP_UNKNOWN_HANDLE);
+  WANT(boundary_map_refusal(UINT64_C(38654705664)) == BOUNDARY_MAP_BAD_WINDOW);
+  WANT(boundary_map_refusal(UINT64_C(42949672960)) == BOUNDARY_MAP_LIST_SHORT);
+  WANT(boundary_map_refusal(1024) == BOUNDARY_MAP_DONE && boundary_map_detail(1024) == 1024);
   WANT(boundary_map_detail(UINT64_MAX) == UINT32_MAX);
   WANT(boundary_map_conflict_slot(0) == 0 && boundary_map_conflict_slot(1023) == 1023);
   WANT(boundary_map_conflict_slot(4 * UINT32_C(65536) + 1023) == 1023);
@@ -51,8 +54,10 @@ static void words(void) {
   for (uint32_t i = 0; i < 20; i++) {
     const char *text = boundary_map_errstr(i);
     WANT(text != NULL && text[0] != '\0');
-    for (uint32_t k = 0; k < i && k < 9; k++) WANT(i > 9 || strcmp(text, boundary_map_errstr(k)) != 0);
+    for (uint32_t k = 0; k < i && k <= BOUNDARY_MAP_REFUSAL_MAX; k++)
+      WANT(strcmp(text, boundary_map_errstr(k)) != 0);
   }
+  WANT(BOUNDARY_MAP_REFUSAL_MAX == BOUNDARY_MAP_LIST_SHORT);
   /* The largest refusal has words of its own; the number after it has those of no refusal. */
   WANT(strcmp(boundary_map_errstr(BOUNDARY_MAP_REFUSAL_MAX), boundary_map_errstr(UINT32_MAX)) != 0);
   WANT(strcmp(boundary_map_errstr(BOUNDARY_MAP_REFUSAL_MAX + 1), boundary_map_errstr(UINT32_MAX)) == 0);
