@@ -27,8 +27,8 @@ cond-abs : (t : Bool) (a b m : ℕ) → (t ≡ true → suc (b - suc a) ≤ m) �
 cond-abs true a b m f g = f refl
 cond-abs false a b m f g = g refl
 
--- the distance of two numbers is at most any bound of both
-pub abs-subℕ : (a b m : ℕ) → a ≤ m → b ≤ m → natAbs (subℕ a b) ≤ m
+-- the distance of two numbers, of which neither is more than m over the other
+pub abs-subℕ : (a b m : ℕ) → a ≤ b + m → b ≤ a + m → natAbs (subℕ a b) ≤ m
 abs-subℕ a b m h k = cond-abs (ltb a b) a b m (λ e. omega (arith, ltb-true a b e)) (λ e. omega arith)
 
 pub abs-add : (a b : ℤ) → natAbs (a +ℤ b) ≤ natAbs a + natAbs b

@@ -16,7 +16,7 @@ use Rattle.meaning.specs.Rules.{meets-ends}
 use Rattle.geometry.specs.declared.Line.{Line}
 use Rattle.geometry.specs.declared.Met.{Met}
 use Rattle.geometry.specs.Means.{lineOf, SonsAsked, SonsMet}
-use Rattle.tables.specs.Rows.{OnMap, IsLine}
+use Rattle.tables.specs.Rows.{OnMap, IsLine, line-ends}
 use Rattle.candidates.specs.declared.Span.{Span}
 use Rattle.candidates.specs.Spread.{digit, meetsAt, Spreadable, Son}
 
@@ -147,7 +147,7 @@ module _ {lines s₀ : List ℕ} {c : Span} {kb : Block} (asked : Spreadable lin
 
     module _ {r : Line} (e : IsLine lines v r) where
       pub sons-asked : SonsAsked kb (lineOf r)
-      sons-asked = record { wide = asked .wide; tall = asked .tall; even = asked .even; met = meets-ends kb (lineOf r) (lineAt lines v) (e .a-is, e .b-is) ∙ asked .met v among }
+      sons-asked = record { wide = asked .wide; tall = asked .tall; ends = line-ends (asked .on-map v among) e; even = asked .even; met = meets-ends kb (lineOf r) (lineAt lines v) (e .a-is, e .b-is) ∙ asked .met v among }
 
       module _ (m : Met) (q : SonsMet kb (lineOf r) (m .nw) (m .ne) (m .sw) (m .se)) where
         pub turned-on : Turned lines kb (c .from) (c .to) (c .free) n s₀ (put4 slots v nw ne sw se) (nw + digit (m .nw)) (ne + digit (m .ne)) (sw + digit (m .sw)) (se + digit (m .se)) (i + 1)

@@ -25,8 +25,8 @@ pub record Spreadable (lines slots : List ℕ) (c : Span) (k : Block) : Type 0 w
   pub span : c .from ≤ c .to
   pub below : c .to ≤ c .free
   pub work : c .free + 4 * (c .to - c .from) ≤ length slots
-  pub wide : k .west + k .side ≤ 65535
-  pub tall : k .south + k .side ≤ 65535
+  pub wide : k .west + k .side ≤ 32768
+  pub tall : k .south + k .side ≤ 32768
   pub even : k .side ≡ 2 * (k .side / 2)
 
 -- one son's span: above free, at most m long, and what it holds

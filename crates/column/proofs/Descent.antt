@@ -61,7 +61,7 @@ module _ {lines slots : List ℕ} {p : Point} {k : Block} {c : Found} (h : LeafO
   holds n = let s = h .south-of in both← (both← (le-leb _ _ (h .from-west)) (le-leb _ _ (h .to-east))) (both← (le-leb (k .south) (p .y .0) (omega arith)) (le-leb _ _ n))
 
   pub leaf-scannable : Scannable lines slots p c
-  leaf-scannable = record { on-map = λ s m. live-on-map lines s (h .sound) (listed→ lines k s (rw (h .list) at m) .0); under = h .down .under }
+  leaf-scannable = record { point = h .point; on-map = λ s m. live-on-map lines s (h .sound) (listed→ lines k s (rw (h .list) at m) .0); under = h .down .under }
 
   -- a line through p
   pub leaf-on : {s : ℕ} → firstOn lines p slots ≡ At s → 65536 + s ≡ answerAt lines p

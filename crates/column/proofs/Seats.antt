@@ -11,6 +11,7 @@ use Rattle.definitions.specs.declared.Point.{Point}
 use Rattle.definitions.specs.Shape.{Line, Block, north}
 use Rattle.definitions.specs.Tree.{Rule, Tree, leaf, divided, block, listed, treeBy, nodesOf, listingsOf}
 use Rattle.definitions.specs.Tables.{liveLines}
+use Rattle.geometry.specs.Range.{End}
 use Rattle.meaning.specs.declared.Found.{Found}
 use Rattle.plane.specs.Blocks.{double, half-power, some-power}
 use Rattle.meaning.specs.Rules.{by-leaf, by-divided, sonsBy}
@@ -182,8 +183,8 @@ module _ {lines nodes listings index : List ℕ} {p : Point} {node : ℕ} {k : B
       go (parted q) t = omega arith
 
   -- a leaf of the walk
-  pub leaf-over : {slots : List ℕ} {c : Found} → slots ≡ listed (liveLines lines) k → k .south < p .y .0 → Down lines p (north k) c → LeafOver lines slots p k c
-  leaf-over e s d = record { sound = h .chart .map .sound .slots; apart = h .chart .map .sound .apart; list = e; from-west = h .from-west; to-east = h .to-east; south-of = s; down = d }
+  pub leaf-over : {slots : List ℕ} {c : Found} → slots ≡ listed (liveLines lines) k → k .south < p .y .0 → Down lines p (north k) c → End p → LeafOver lines slots p k c
+  leaf-over e s d g = record { point = g; sound = h .chart .map .sound .slots; apart = h .chart .map .sound .apart; list = e; from-west = h .from-west; to-east = h .to-east; south-of = s; down = d }
 
 pub strip-few : {p : Point} {k a b : Block} {q : ℕ} → StripOver p k q a b → q < 2
 strip-few (in-west x e f) = omega arith

@@ -11,6 +11,7 @@ use Rattle.definitions.specs.Tree.{Rule, Tree, tree, treeBy, listed, listingsOf
 use Rattle.definitions.specs.Tables.{slotsOf, slotSound, liveLines, noneConflict}
 use Rattle.definitions.specs.Lookup.{answerAt}
 use Rattle.geometry.specs.Means.{blockOf}
+use Rattle.geometry.specs.Range.{End}
 use Rattle.meaning.specs.declared.Found.{Found}
 use Rattle.meaning.specs.Sound.{Sound}
 use Rattle.meaning.specs.Walk.{reached, Walked}
@@ -43,6 +44,7 @@ pub record LeafOver (lines slots : List ℕ) (p : Point) (k : Block) (c : Found)
   pub to-east : p .x .0 ≤ east k
   pub south-of : k .south < p .y .0
   pub down : Down lines p (north k) c
+  pub point : End p
 
 -- ---- The tree in the tables
 
@@ -171,9 +173,4 @@ pub record AtLeaf (lines nodes listings index : List ℕ) (p : Point) (at : Spot
   pub whole : getD nodes (at .node) 0 ≡ 65535 → ⊥
   pub south-of : at .block .south .0 < p .y .0
   pub down : Down lines p (northOf at) c
-
--- the half-steps of a grid point
-pub record OnGrid (p : Point) : Type 0 where
-  pub x-most : p .x .0 ≤ 32767
-  pub y-least : 1 ≤ p .y .0
-  pub y-most : p .y .0 ≤ 32767
+  pub point : End p

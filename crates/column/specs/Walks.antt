@@ -13,6 +13,7 @@ use Rattle.definitions.specs.Tree.{tree, listingsOf}
 use Rattle.definitions.specs.Tables.{liveLines, listingTable, noneConflict}
 use Rattle.definitions.specs.Lookup.{answerAt}
 use Rattle.geometry.specs.Means.{blockOf}
+use Rattle.geometry.specs.Range.{End}
 use Rattle.meaning.specs.declared.Found.{Found}
 use Rattle.meaning.specs.declared.Found.the-variants.{Nothing}
 use Rattle.meaning.specs.Column.{BestBelow, SeenBelow, start-below, all-below, labelOf, answer-found}
@@ -21,7 +22,7 @@ use Rattle.walk.specs.Index.{Standing, Entries}
 use Rattle.walk.specs.Placing.{there, map-standing}
 use Rattle.scan.specs.Asked.{none}
 use Rattle.column.specs.declared.Spot.{Spot}
-use Rattle.column.specs.Asked.{Down, Mapped, Charted, Placed, PutBy, ground, next, Column, AtSpot, northOf, TakenUp, OnGrid}
+use Rattle.column.specs.Asked.{Down, Mapped, Charted, Placed, PutBy, ground, next, Column, AtSpot, northOf, TakenUp}
 
 -- ---- What is found
 
@@ -108,5 +109,5 @@ module _ {lines nodes listings index later : List ℕ} {p : Point} where
           (subst (λ (m : ℕ). Column lines nodes listings index later p m k i) (one-node x here)
           (record { placed = q; few = f; south-of = omega (arith, n); put-by = u })))
 
-  pub at-start : {r : Spot} → Charted lines nodes listings index → OnGrid p → (r .node ≡ 0) × (blockOf (r .block) ≡ wholeMap) × (r .by ≡ 0) → AtSpot lines nodes listings index later p r
-  at-start h g e = rw (e .0, e .1, e .2) (record { placed = map-placed h (g .x-most); few = omega (arith, map-level p h (g .x-most)); south-of = omega (arith, g .y-least); put-by = ground })
+  pub at-start : {r : Spot} → Charted lines nodes listings index → End p → (r .node ≡ 0) × (blockOf (r .block) ≡ wholeMap) × (r .by ≡ 0) → AtSpot lines nodes listings index later p r
+  at-start h g e = rw (e .0, e .1, e .2) (record { placed = map-placed h (g .toEast); few = omega (arith, map-level p h (g .toEast)); south-of = omega (arith, g .fromSouth); put-by = ground })

@@ -15,6 +15,7 @@ ghost use Prim.Native.Nat.{_≤_};
 ghost use Rattle.definitions.specs.Shape.{isEnd, kindOf};
 ghost use Rattle.definitions.specs.Calls.{allOnGrid, kindNumber, conflictDetail};
 ghost use Rattle.geometry.specs.Means.{lineOf};
+ghost use Rattle.geometry.specs.Range.{LineEnds};
 ghost use Rattle.tables.specs.Rows.{OnMap};
 
 fn both_ends(p: Point, q: Point, m: Line) -> bool
@@ -25,6 +26,7 @@ fn both_ends(p: Point, q: Point, m: Line) -> bool
 
 // Of lines that conflict.
 pub fn kind_of(l: Line, m: Line) -> Kind
+    requires { ⌜ LineEnds (lineOf l) × LineEnds (lineOf m) ⌝ }
     ensures { λ r. ⌜ r ≡ kindOf (lineOf l) (lineOf m) ⌝ }
 {
     if both_ends(l.a, l.b, m) {

@@ -11,6 +11,7 @@ use Rattle.algebra.specs.Tests.{both-ways, false-by, no-path}
 use Rattle.definitions.specs.declared.Point.{Point}
 use Rattle.definitions.specs.Shape.{isEnd, conflict}
 use Rattle.definitions.specs.Tables.{lineAt}
+use Rattle.geometry.specs.Range.{End}
 use Rattle.leaves.specs.Fans.{leavesLeft, one-side}
 use Rattle.leaves.specs.Pass.{clearOf, leafApart, Good}
 
@@ -26,6 +27,7 @@ onSide lines v w side s = Bool·beq (leavesLeft v w (lineAt lines s)) side
 pub record Fan (lines : List ℕ) (v : Point) (slots : List ℕ) : Type 0 where
   pub good : Good lines slots
   pub ends : every (endsAt lines v) slots ≡ true
+  pub hub : End v
   pub few : length slots ≤ 1024
 
 -- the r slots that pass the test stand at the front of a table
@@ -90,6 +92,7 @@ module _ {lines : List ℕ} {v : Point} {slots : List ℕ} (f : Fan lines v slot
   fan-those p = record {
     good = λ s m. f .good s (of-those p slots m .0);
     ends = every← (endsAt lines v) (those p slots) (λ s m. every→ (endsAt lines v) slots (f .ends) (of-those p slots m .0));
+    hub = f .hub;
     few = omega (arith, those-length p slots, f .few);
   }
 

@@ -16,6 +16,7 @@ ghost use Rattle.algebra.specs.Words.{every, those};
 ghost use Rattle.definitions.specs.Shape.{samePoint, isEnd};
 ghost use Rattle.definitions.specs.Tables.{noneConflict};
 ghost use Rattle.geometry.specs.Means.{lineOf};
+ghost use Rattle.geometry.specs.Range.{End, LineEnds};
 ghost use Rattle.leaves.specs.Fans.{leavesLeft};
 ghost use Rattle.leaves.specs.Sides.{endsAt, onSide, Fan, Kept};
 ghost use Rattle.leaves.specs.Parting.{farEnd, meanEnd, pivotOf};
@@ -29,7 +30,7 @@ const DEPTH: u16 = 12;
 
 // l conflicts with the line of one of the slots.
 pub fn conflicts_with(lines: &[u16], slots: &[u16], l: Line) -> bool
-    requires { ⌜ Good (now lines) (now slots) × (samePoint (l .a) (l .b) ≡ false) ⌝ }
+    requires { ⌜ Good (now lines) (now slots) × (samePoint (l .a) (l .b) ≡ false) × LineEnds (lineOf l) ⌝ }
     ensures { λ r. ⌜ r ≡ not (clearOf (now (lines .entry)) (lineOf l) (now (slots .entry))) ⌝ }
 {
     let mut i: usize = 0;
@@ -92,6 +93,7 @@ pub fn far_end(l: Line, v: Point) -> Point
 
 // The line, which has an end at v, leaves it to the left of the way from v to w: at the end that is v the turn is 0.
 pub fn leaves_left(l: Line, v: Point, w: Point) -> bool
+    requires { ⌜ LineEnds (lineOf l) × End v × End w ⌝ }
     ensures { λ r. ⌜ r ≡ leavesLeft v w (lineOf l) ⌝ }
 {
     left(turn(v, w, l.a)) | left(turn(v, w, l.b))
@@ -99,7 +101,7 @@ pub fn leaves_left(l: Line, v: Point, w: Point) -> bool
 
 // The slots whose lines leave v on this side of the way to w, at the front of kept, and how many.
 pub fn keep(lines: &[u16], slots: &[u16], kept: &mut [u16], v: Point, w: Point, side: bool) -> usize
-    requires { ⌜ Good (now lines) (now slots) × (length (now slots) ≤ length (now kept)) ⌝ }
+    requires { ⌜ Good (now lines) (now slots) × (length (now slots) ≤ length (now kept)) × End v × End w ⌝ }
     ensures { λ r. ⌜ Kept (onSide (now (lines .entry)) v w side) (now (slots .entry)) (now (kept .exit)) r ⌝ }
 {
     let mut n: usize = 0;
@@ -191,7 +193,7 @@ pub fn side_conflicts(
     depth: u16,
     side: bool,
 ) -> bool
-    requires { ⌜ Fan (now lines) v (now slots) ⌝ }
+    requires { ⌜ Fan (now lines) v (now slots) × End w ⌝ }
     ensures { λ r. ⌜ r ≡ not (leafApart (now (lines .entry)) (those (onSide (now (lines .entry)) v w side) (now (slots .entry)))) ⌝ }
 {
     let mut kept = [0u16; 1024];

@@ -11,10 +11,8 @@ use lib.Seq.{drop-cons, take-suc-set, take-all, append-snoc}
 use borrow.Author.Tests.{leb-true}
 use Rattle.algebra.specs.Words.{if_then_else_}
 use Rattle.algebra.specs.Tests.{both→}
-use Rattle.definitions.specs.declared.Point.{Point}
 use Rattle.definitions.specs.Shape.{gridPoint}
 use Rattle.definitions.specs.Lookup.{answerAt, answerTo, answersTo}
-use Rattle.column.specs.Asked.{OnGrid}
 
 -- ---- One pair
 
@@ -25,9 +23,6 @@ module _ (x y : ℕ) {a b : Bool} (e : a ≡ leb x 16383) (f : b ≡ leb y 16383
   pub answer-is : (lines : List ℕ) {t : Bool} → a && b ≡ t → (if t then answerAt lines (gridPoint x y) else 4294967295) ≡ answerTo lines x y
   unfolding answerTo
   answer-is lines h = ap (λ (t : Bool). if t then answerAt lines (gridPoint x y) else 4294967295) (sym h ∙ ap₂ _&&_ e f)
-
-pub grid-point : {x y : ℕ} {p : Point} → (x ≤ 16383) × (y ≤ 16383) → p ≡ gridPoint x y → OnGrid p
-grid-point h e = rw e (record { x-most = omega arith; y-least = omega arith; y-most = omega arith })
 
 -- ---- All pairs
 

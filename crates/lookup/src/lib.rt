@@ -16,7 +16,8 @@ ghost use mathlib.Core.Path.{_≡_};
 ghost use Prim.Native.Nat.{_+_, _*_, min};
 ghost use lib.ListN.{length};
 ghost use Rattle.definitions.specs.Lookup.{answerAt, answerTo, answersTo};
-ghost use Rattle.column.specs.Asked.{Mapped, OnGrid};
+ghost use Rattle.geometry.specs.Range.{End};
+ghost use Rattle.column.specs.Asked.{Mapped};
 ghost use Rattle.scan.specs.Asked.{Plain};
 ghost use Rattle.lookup.specs.Asked.{Ready};
 
@@ -59,7 +60,7 @@ fn walked(answer: u32, live: &[u16], left: usize) -> Reply
 }
 
 fn search_plainly(lines: &[u16], live: &[u16], p: Point, left: usize) -> Reply
-    requires { ⌜ Plain (now lines) (now live) ⌝ }
+    requires { ⌜ Plain (now lines) (now live) × End p ⌝ }
     ensures { λ r. ⌜ r .answer ≡ answerAt (now (lines .entry)) p ⌝ }
 {
     Reply {
@@ -87,7 +88,7 @@ fn walk_column(
     later: &mut [u16],
     paid: usize,
 ) -> Reply
-    requires { ⌜ Ready (now lines) (now nodes) (now listings) (now index) (now live) × OnGrid p × (length (now later) ≡ 64) ⌝ }
+    requires { ⌜ Ready (now lines) (now nodes) (now listings) (now index) (now live) × End p × (length (now later) ≡ 64) ⌝ }
     ensures { λ r. ⌜ r .answer ≡ answerAt (now (lines .entry)) p ⌝ }
 {
     let mut at = first_spot();
@@ -124,7 +125,7 @@ fn answer_at(
     p: Point,
     left: usize,
 ) -> Reply
-    requires { ⌜ Ready (now lines) (now nodes) (now listings) (now index) (now live) × OnGrid p ⌝ }
+    requires { ⌜ Ready (now lines) (now nodes) (now listings) (now index) (now live) × End p ⌝ }
     ensures { λ r. ⌜ r .answer ≡ answerAt (now (lines .entry)) p ⌝ }
 {
     if left <= START {

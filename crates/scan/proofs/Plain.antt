@@ -6,6 +6,7 @@ use Prim.Native.Nat.{ℕ, _+_}
 use Rattle.definitions.specs.declared.Point.{Point}
 use Rattle.definitions.specs.Tables.{liveSlots}
 use Rattle.definitions.specs.Lookup.{below, answerAt}
+use Rattle.geometry.specs.Range.{End}
 use Rattle.meaning.specs.declared.Found.{Found}
 use Rattle.meaning.specs.declared.Found.the-variants.{Nothing, At}
 use Rattle.meaning.specs.Answering.{live→}
@@ -17,8 +18,8 @@ use Rattle.scan.specs.Asked.{none, Scannable, NoneOn, Plain}
 use Rattle.scan.specs.Told.{live-on-map}
 
 module _ {lines live : List ℕ} (p : Point) (h : Plain lines live) where
-  pub all-scannable : Scannable lines live p Nothing
-  all-scannable = record { on-map = λ s m. live-on-map lines s (h .slots) (live→ lines s (rw (h .all) at m)); under = none }
+  pub all-scannable : End p → Scannable lines live p Nothing
+  all-scannable e = record { point = e; on-map = λ s m. live-on-map lines s (h .slots) (live→ lines s (rw (h .all) at m)); under = none }
 
   pub all-on : {s : ℕ} → firstOn lines p live ≡ At s → 65536 + s ≡ answerAt lines p
   unfolding plain answerBy

@@ -8,6 +8,7 @@ use Rattle.definitions.specs.declared.Point.{Point}
 use Rattle.definitions.specs.Tables.{slotsOf, slotSound, lineAt, liveSlots, noneConflict}
 use Rattle.definitions.specs.Lookup.{below}
 use Rattle.geometry.specs.declared.Line as code
+use Rattle.geometry.specs.Range.{End}
 use Rattle.meaning.specs.declared.Found.{Found}
 use Rattle.meaning.specs.declared.Found.the-variants.{Nothing, At}
 use Rattle.meaning.specs.Best.{better, aheadByTurns, scan}
@@ -40,6 +41,7 @@ abbrev pub upperOf : List ℕ → Found → ℕ → Found
 upperOf lines best s = better lines (λ l. true) (aheadByTurns true) best s
 
 pub record Scannable (lines slots : List ℕ) (p : Point) (c : Found) : Type 0 where
+  pub point : End p
   pub on-map : (s : ℕ) → List·Memᴰ s slots → OnMap lines s
   pub under : Under lines p c
 

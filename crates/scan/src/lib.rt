@@ -13,6 +13,7 @@ use tables::wide;
 ghost use mathlib.Core.Path.{_≡_};
 ghost use Prim.Native.Nat.{_+_};
 ghost use Rattle.definitions.specs.Lookup.{answerAt};
+ghost use Rattle.geometry.specs.Range.{End};
 ghost use Rattle.meaning.specs.Column.{labelOf};
 ghost use Rattle.scan.specs.Asked.{Compared, upperOf, UnderSome, Scannable, ScanIs, Plain};
 
@@ -80,7 +81,7 @@ pub fn answer_below(lines: &[u16], best: Found) -> u32
 
 // All live lines looked at.
 pub fn search_all(lines: &[u16], live: &[u16], p: Point) -> u32
-    requires { ⌜ Plain (now lines) (now live) ⌝ }
+    requires { ⌜ Plain (now lines) (now live) × End p ⌝ }
     ensures { λ r. ⌜ r ≡ answerAt (now (lines .entry)) p ⌝ }
 {
     match scan_slots(lines, live, p, Found::Nothing) {

@@ -11,6 +11,7 @@ use Rattle.definitions.specs.Lookup.{upperLabel}
 use Rattle.definitions.specs.Calls.{withSlot, placed, freed}
 use Rattle.geometry.specs.declared.Line as code
 use Rattle.geometry.specs.Means.{lineOf, lineFrom}
+use Rattle.geometry.specs.Range.{LineEnds, grid-end}
 use Rattle.tables.specs.declared.Row.{Row}
 
 abbrev pub rowAt : List ℕ → ℕ → Row
@@ -100,6 +101,14 @@ pub record OnMap (lines : List ℕ) (s : ℕ) : Type 0 where
 pub record IsLine (lines : List ℕ) (s : ℕ) (r : code.Line) : Type 0 where
   pub a-is : r .a ≡ lineAt lines s .a
   pub b-is : r .b ≡ lineAt lines s .b
+
+-- its ends are line ends
+pub map-ends : {lines : List ℕ} {s : ℕ} → OnMap lines s → LineEnds (lineAt lines s)
+unfolding lineAt
+map-ends m = record { first = grid-end (m .gridX1) (m .gridY1); second = grid-end (m .gridX2) (m .gridY2) }
+
+pub line-ends : {lines : List ℕ} {s : ℕ} {r : code.Line} → OnMap lines s → IsLine lines s r → LineEnds (lineOf r)
+line-ends m e = record { first = rw (e .a-is) (map-ends m .first); second = rw (e .b-is) (map-ends m .second) }
 
 -- the same as one equation, since no test reads a line's slot
 pub line-is : {lines : List ℕ} {s : ℕ} {r : code.Line} → IsLine lines s r → lineOf r ≡ lineFrom (lineAt lines s .a) (lineAt lines s .b)

@@ -16,6 +16,7 @@ ghost use Rattle.definitions.specs.Lookup.{upperLabel};
 ghost use Rattle.definitions.specs.Calls.{withSlot, allOnGrid, noLength, conflicting, freeSlots};
 ghost use Rattle.definitions.specs.Calls.{known as knownIn};
 ghost use Rattle.geometry.specs.Means.{lineOf};
+ghost use Rattle.geometry.specs.Range.{LineEnds};
 ghost use Rattle.tables.specs.Rows.{rowAt, entriesOf, rowOf, emptiedRow, isFree, OnMap, IsLine};
 ghost use Rattle.tables.specs.Gathered.{Front};
 ghost use Rattle.tables.specs.Slots.{firstSlotOf};
@@ -289,7 +290,7 @@ pub fn no_length(g: Given) -> bool
 
 // The row is live, and its line conflicts with l.
 pub fn hinders(row: Row, l: Line) -> bool
-    requires { ⌜ (slotSound (entriesOf row) 0 ≡ true) × (samePoint (l .a) (l .b) ≡ false) ⌝ }
+    requires { ⌜ (slotSound (entriesOf row) 0 ≡ true) × (samePoint (l .a) (l .b) ≡ false) × LineEnds (lineOf l) ⌝ }
     ensures { λ r. ⌜ r ≡ hindersAt (entriesOf row) (lineOf l) 0 ⌝ }
 {
     if is_live(row) {

@@ -23,10 +23,11 @@ ghost use Rattle.definitions.specs.Shape.{meetsArea};
 ghost use Rattle.definitions.specs.Tables.{slotsOf, slotSound};
 ghost use Rattle.definitions.specs.Window.{windowFits, areaIn, slotsIn, listedIn};
 ghost use Rattle.geometry.specs.Means.{lineOf};
+ghost use Rattle.geometry.specs.Range.{LineEnds};
 ghost use Rattle.tables.specs.Gathered.{Front};
 ghost use Rattle.tables.specs.Lent.{Windows};
 ghost use Rattle.tables.specs.Rows.{entriesOf};
-ghost use Rattle.window.specs.Means.{areaBy, overlapOf, oneSideOf, seenAt};
+ghost use Rattle.window.specs.Means.{areaBy, InMap, overlapOf, oneSideOf, seenAt};
 
 // A closed rectangle by its four sides.
 pub struct Area {
@@ -44,7 +45,7 @@ fn overlap(low: Half, high: Half, a: Half, b: Half) -> bool
 }
 
 // All four turns above 0, or all below.
-fn one_side(a: i64, b: i64, c: i64, d: i64) -> bool
+fn one_side(a: i32, b: i32, c: i32, d: i32) -> bool
     ensures { λ r. ⌜ r ≡ oneSideOf a b c d ⌝ }
 {
     ((0 < a) & (0 < b) & (0 < c) & (0 < d)) | ((a < 0) & (b < 0) & (c < 0) & (d < 0))
@@ -52,6 +53,7 @@ fn one_side(a: i64, b: i64, c: i64, d: i64) -> bool
 
 // The boxes first: they tell most lines apart, and need no product.
 pub fn meets_area(k: Area, l: Line) -> bool
+    requires { ⌜ InMap (areaBy k) × LineEnds (lineOf l) ⌝ }
     ensures { λ r. ⌜ r ≡ meetsArea (areaBy k) (lineOf l) ⌝ }
 {
     let west = k.west;
@@ -97,7 +99,7 @@ fn area_in(w: Window) -> Area
 
 // The row is live, and its line meets the rectangle.
 fn seen(row: Row, k: Area) -> bool
-    requires { ⌜ slotSound (entriesOf row) 0 ≡ true ⌝ }
+    requires { ⌜ (slotSound (entriesOf row) 0 ≡ true) × InMap (areaBy k) ⌝ }
     ensures { λ r. ⌜ r ≡ seenAt (entriesOf row) (areaBy k) 0 ⌝ }
 {
     if is_live(row) {
@@ -108,7 +110,7 @@ fn seen(row: Row, k: Area) -> bool
 
 // The live slots whose line meets the rectangle, rising, at the front of `to`, and how many.
 fn seen_slots(lines: &[u16], to: &mut [u16], k: Area) -> usize
-    requires { ⌜ (every (slotSound (now lines)) (slotsOf (now lines)) ≡ true) × (length (now lines) ≤ 8192) × (length (now lines) ≤ 8 * length (now to)) ⌝ }
+    requires { ⌜ (every (slotSound (now lines)) (slotsOf (now lines)) ≡ true) × (length (now lines) ≤ 8192) × (length (now lines) ≤ 8 * length (now to)) × InMap (areaBy k) ⌝ }
     ensures { λ r. ⌜ Front (slotsIn (now (lines .entry)) (areaBy k)) (now (to .entry)) (now (to .exit)) r ⌝ }
 {
     let n = lines.len() / 8;

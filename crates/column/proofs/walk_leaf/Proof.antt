@@ -1,7 +1,9 @@
 -- `column::walk_leaf` meets its contract. A line through the point ends the walk; so does a best line that is reached at the south side.
 use mathlib.Core.Path.{refl, sym, ap, _∙_}
 use borrow.Author.Needs.{needs}
+use native.Mathlib.Omega.{arith}
 use Rattle.meaning.specs.Walk.{reached}
+use Rattle.tables.specs.Rows.{line-ends}
 use Rattle.scan.specs.Told.{under-map, scan-best, none-there}
 use Rattle.column.specs.Walks.{none-reached}
 use Rattle.column.proofs.Descent.{leaf-scannable, leaf-on, leaf-reached, leaf-going, reach-is}
@@ -40,7 +42,8 @@ line-at-requires : tie.Need-line-at-requires
 line-at-requires c κs = let x = c .before in let b = x .before .before .before in let g = b .before .before in under-map _ (scan-best (g .scan-slots .ensures) (b .best .given .1) (x .best2 .given .1) .under)
 
 reaches-requires : tie.Need-reaches-requires
-reaches-requires c κs = search needs
+reaches-requires c κs = let l = c .before in let x = l .before in let b = x .before .before .before in let g = b .before .before in let s = g .before .before .before .before in
+    (line-ends (under-map _ (scan-best (g .scan-slots .ensures) (b .best .given .1) (x .best2 .given .1) .under)) (c .line-at .ensures), record { toEast = omega (arith, s .pre .point .toEast); toNorth = omega (arith, s .pre .south-of, s .pre .point .toNorth) })
 
 answer-below-requires : tie.Need-answer-below-requires
 answer-below-requires c κs = let x = c .before .before .before .before in let b = x .before .before .before in let g = b .before .before in record { point = g .before .before .before .before .args .p; under = scan-best (g .scan-slots .ensures) (b .best .given .1) (x .best2 .given .1) .under }

@@ -43,7 +43,7 @@ part-walk-leaf-end : tie.Need-part-walk-leaf-end
 part-walk-leaf-end c = let s = c .before .before .before .before .before .before .before .before in let q = s .pre .placed in let l = leaf-cut q (s .pre .whole) in omega (arith, l .within, c .before .before .wide .ensures, c .wide2 .ensures, q .chart .map .few-listings)
 
 walk-leaf-requires : tie.Need-walk-leaf-requires
-walk-leaf-requires c κs = let w = c .before in let s = w .before .before .before .before .before .before .before .before in leaf-over (s .pre .placed) (rw (w .before .before .wide .ensures, w .wide2 .ensures) (leaf-cut (s .pre .placed) (s .pre .whole) .list-is)) (s .pre .south-of) (s .pre .down)
+walk-leaf-requires c κs = let w = c .before in let s = w .before .before .before .before .before .before .before .before in leaf-over (s .pre .placed) (rw (w .before .before .wide .ensures, w .wide2 .ensures) (leaf-cut (s .pre .placed) (s .pre .whole) .list-is)) (s .pre .south-of) (s .pre .down) (s .pre .point)
 
 returns : tie.Need-returns
 returns c = search needs

@@ -1,5 +1,7 @@
 use native.Mathlib.Omega.{arith}
 use borrow.Author.Needs.{needs}
+use Rattle.geometry.specs.Range.{grid-ends}
+use Rattle.tables.specs.Rows.{line-ends}
 use Rattle.tables.specs.Sound.{given-on-grid}
 use Rattle.kinds.specs.Detail.{detail-is}
 use Rattle.kinds.proofs.conflict_detail.Statement.{statement}
@@ -15,7 +17,7 @@ line-of-requires : tie.Need-line-of-requires
 line-of-requires c κs = given-on-grid _ (c .before .before .pre .2)
 
 kind-of-requires : tie.Need-kind-of-requires
-kind-of-requires c κs = search needs
+kind-of-requires c κs = let m = c .before in let s = m .before .before .pre in (line-ends (s .0) (m .line-at .ensures), grid-ends (c .line-of .ensures) (given-on-grid _ (s .2)))
 
 kind-number-requires : tie.Need-kind-number-requires
 kind-number-requires c κs = search needs

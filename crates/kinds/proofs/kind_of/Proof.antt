@@ -3,6 +3,7 @@ use borrow.Author.Needs.{needs}
 use Rattle.algebra.specs.Words.{isZero}
 use Rattle.geometry.specs.Bits.{told, told₂}
 use Rattle.geometry.specs.Means.{lineOf, bothApart}
+use Rattle.geometry.specs.Range.{end-corner}
 use Rattle.kinds.specs.Told.{told-same, told-overlap, told-crossing, told-touching}
 use Rattle.kinds.proofs.kind_of.Statement.{statement}
 use Rattle.kinds.proofs.kind_of.Tie as tie
@@ -14,10 +15,10 @@ returns : tie.Need-returns
 returns c = let g = c .before .before .args in told-same (lineOf (g .l)) (lineOf (g .m)) (sym (c .before .both-ends .ensures) ∙ c .if1 .taken)
 
 turn-requires : tie.Need-turn-requires
-turn-requires c κs = search needs
+turn-requires c κs = let s = c .before .before .pre in (s .0 .first, s .0 .second, end-corner (s .1 .first))
 
 turn-requires-2 : tie.Need-turn-requires-2
-turn-requires-2 c κs = search needs
+turn-requires-2 c κs = let s = c .before .before .before .pre in (s .0 .first, s .0 .second, end-corner (s .1 .second))
 
 straight-requires : tie.Need-straight-requires
 straight-requires c κs = search needs
@@ -31,10 +32,10 @@ returns-2 c = let z2 = c .before in let z1 = z2 .before in let t2 = z1 .before i
     (told isZero (t1 .turn .ok) (t1 .turn .ensures) (z1 .straight .ensures)) (told isZero (t2 .turn2 .ok) (t2 .turn2 .ensures) (z2 .straight2 .ensures)) (c .if2 .taken)
 
 turn-requires-3 : tie.Need-turn-requires-3
-turn-requires-3 c κs = search needs
+turn-requires-3 c κs = let s = c .before .before .before .before .before .before .before .pre in (s .1 .first, s .1 .second, end-corner (s .0 .first))
 
 turn-requires-4 : tie.Need-turn-requires-4
-turn-requires-4 c κs = search needs
+turn-requires-4 c κs = let s = c .before .before .before .before .before .before .before .before .pre in (s .1 .first, s .1 .second, end-corner (s .0 .second))
 
 both-sides-requires : tie.Need-both-sides-requires
 both-sides-requires c κs = search needs

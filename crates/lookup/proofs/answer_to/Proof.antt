@@ -2,7 +2,8 @@
 use mathlib.Core.Path.{ap, _∙_}
 use borrow.Author.Needs.{needs}
 use Rattle.definitions.specs.Lookup.{answerAt}
-use Rattle.lookup.proofs.Answering.{both-on-grid, grid-point, answer-is}
+use Rattle.geometry.specs.Range.{grid-end}
+use Rattle.lookup.proofs.Answering.{both-on-grid, answer-is}
 use Rattle.lookup.proofs.answer_to.Statement.{statement}
 use Rattle.lookup.proofs.answer_to.Tie as tie
 
@@ -16,7 +17,7 @@ point-of-requires : tie.Need-point-of-requires
 point-of-requires c κs = both-on-grid _ _ (c .before .before .on-grid .ensures) (c .before .on-grid2 .ensures) (c .if1 .taken)
 
 answer-at-requires : tie.Need-answer-at-requires
-answer-at-requires c κs = let t = c .before in (t .before .before .before .before .before .before .before .before .pre, grid-point (both-on-grid _ _ (t .before .before .on-grid .ensures) (t .before .on-grid2 .ensures) (t .if1 .taken)) (c .point-of .ensures))
+answer-at-requires c κs = let t = c .before in (t .before .before .before .before .before .before .before .before .pre, let g = both-on-grid _ _ (t .before .before .on-grid .ensures) (t .before .on-grid2 .ensures) (t .if1 .taken) in rw (c .point-of .ensures) (grid-end (g .0) (g .1)))
 
 returns : tie.Need-returns
 returns c = let t = c .before .before in c .answer-at .ensures ∙ ap (answerAt _) (c .before .point-of .ensures) ∙ answer-is _ _ (t .before .before .on-grid .ensures) (t .before .on-grid2 .ensures) _ (t .if1 .taken)

@@ -49,7 +49,7 @@ first-spot-requires : tie.Need-first-spot-requires Inv-loop μ-loop
 first-spot-requires c κs = search needs
 
 loop-holds : tie.Need-loop-holds Inv-loop μ-loop
-loop-holds c = let s = start c in let a = at-start (s .pre .0 .chart) (s .pre .1) (c .first-spot .ensures) in (a, down-start _ _ _ (omega (arith, s .pre .1 .y-most, ap north (c .first-spot .ensures .1))), refl)
+loop-holds c = let s = start c in let a = at-start (s .pre .0 .chart) (s .pre .1) (c .first-spot .ensures) in (a, down-start _ _ _ (omega (arith, s .pre .1 .toNorth, ap north (c .first-spot .ensures .1))), refl)
 
 go-down-requires : tie.Need-go-down-requires Inv-loop μ-loop
 go-down-requires c κs = let l = c .before in let s = start (l .before) in record { lines = s .args .lines .now; listings = s .args .listings .now; column = l .loop .inv .0; room = l .loop .inv .2 ∙ s .pre .2 }
@@ -64,7 +64,7 @@ cost-of-requires : tie.Need-cost-of-requires Inv-loop μ-loop
 cost-of-requires c κs = search needs
 
 search-plainly-requires : tie.Need-search-plainly-requires Inv-loop μ-loop
-search-plainly-requires c κs = plain (start (turn (gone (c .before)) .before) .pre .0)
+search-plainly-requires c κs = let s = start (turn (gone (c .before)) .before) .pre in (plain (s .0), s .1)
 
 same-length : tie.Need-same-length Inv-loop μ-loop
 same-length c = search needs
@@ -73,7 +73,7 @@ returns : tie.Need-returns Inv-loop μ-loop
 returns c = c .search-plainly .ensures
 
 walk-spot-requires : tie.Need-walk-spot-requires Inv-loop μ-loop
-walk-spot-requires c κs = let g = gone (c .before) in let l = turn g .loop .inv in let d = g .go-down .ensures in let a = d .came .stands (l .0) in record { placed = a .placed; whole = d .whole; south-of = a .south-of; down = d .came .down (l .0) (l .1) }
+walk-spot-requires c κs = let g = gone (c .before) in let l = turn g .loop .inv in let d = g .go-down .ensures in let a = d .came .stands (l .0) in record { placed = a .placed; whole = d .whole; south-of = a .south-of; down = d .came .down (l .0) (l .1); point = start (turn g .before) .pre .1 }
 
 enum-known-n : tie.Need-enum-known-n Inv-loop μ-loop
 enum-known-n c = search needs
@@ -106,7 +106,7 @@ returns-3 c =
     let s = begun e in
     let a = went e .go-down .ensures .came .stands (turn (went e) .loop .inv .0) in
     c .walked2 .ensures ∙ b .answer-below .ensures
-    ∙ down-end (s .pre .0 .chart .map .sound .apart) (s .pre .1 .y-least) (subst (λ (S : ℕ). Down (s .args .lines .now) (s .args .p) S (e .d .given .0 .0)) (grounded (a .put-by) (b .before .if2 .taken)) (on e))
+    ∙ down-end (s .pre .0 .chart .map .sound .apart) (s .pre .1 .fromSouth) (subst (λ (S : ℕ). Down (s .args .lines .now) (s .args .p) S (e .d .given .0 .0)) (grounded (a .put-by) (b .before .if2 .taken)) (on e))
 
 sub-take-up : tie.Need-sub-take-up Inv-loop μ-loop
 sub-take-up c = let z = c .before .before .if2 .left in search needs

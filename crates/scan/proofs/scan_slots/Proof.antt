@@ -6,6 +6,8 @@ use native.Mathlib.Omega.{arith}
 use lib.ListN.{length}
 use borrow.Author.Needs.{needs}
 use Rattle.algebra.specs.Lists.{mem-at}
+use Rattle.geometry.specs.Range.{end-corner}
+use Rattle.tables.specs.Rows.{line-ends}
 use Rattle.scan.specs.Asked.{one}
 use Rattle.scan.proofs.Scans.{Onward, onward-start, onward-on, onward-below, onward-aside, onward-end, stand-tells}
 use Rattle.scan.proofs.scan_slots.Statement.{statement}
@@ -30,7 +32,7 @@ line-at-requires : tie.Need-line-at-requires Inv-loop μ-loop
 line-at-requires c κs = let s = c .before .before .before .before .before in s .pre .on-map _ (mem-at (s .args .slots .now) (c .before .before .loop .i) (c .before .loop-test .taken))
 
 stand-of-requires : tie.Need-stand-of-requires Inv-loop μ-loop
-stand-of-requires c κs = search needs
+stand-of-requires c κs = let w = c .before .before in let s = w .before .before .before .before in (line-ends (s .pre .on-map _ (mem-at (s .args .slots .now) (w .before .loop .i) (w .loop-test .taken))) (c .line-at .ensures), end-corner (s .pre .point))
 
 enum-told : tie.Need-enum-told Inv-loop μ-loop
 enum-told c = search needs

@@ -1,5 +1,7 @@
 -- `scan::upper_of` meets its contract.
 use borrow.Author.Needs.{needs}
+use Rattle.geometry.specs.Range.{eastward-ends}
+use Rattle.tables.specs.Rows.{line-ends}
 use Rattle.scan.specs.Told.{under-map}
 use Rattle.scan.proofs.Scans.{eastern, upper-is, upper-none}
 use Rattle.scan.proofs.upper_of.Statement.{statement}
@@ -21,7 +23,10 @@ eastward-requires-2 : tie.Need-eastward-requires-2
 eastward-requires-2 c κs = search needs
 
 higher-requires : tie.Need-higher-requires
-higher-requires c κs = let b = c .before .before .before .before in let s = b .before .before .before in eastern _ (s .pre .second) (rw (b .best .given .1) at (s .pre .first)) (s .pre .is-line) (c .before .line-at .ensures) (c .before .before .eastward .ensures) (c .eastward2 .ensures)
+higher-requires c κs = let b = c .before .before .before .before in let s = b .before .before .before in
+    let f = rw (b .best .given .1) at (s .pre .first) in
+    let e = eastern _ (s .pre .second) f (s .pre .is-line) (c .before .line-at .ensures) (c .before .before .eastward .ensures) (c .eastward2 .ensures) in
+    (e .0, e .1, eastward-ends _ (c .before .before .eastward .ensures) (line-ends (under-map _ (s .pre .second)) (s .pre .is-line)), eastward-ends _ (c .eastward2 .ensures) (line-ends (under-map _ f) (c .before .line-at .ensures)))
 
 returns : tie.Need-returns
 returns c = let g = c .before in let b = g .before .before .before .before .before in let s = b .before .before .before in rw (b .best .given .1) (upper-is _ (s .pre .second) (rw (b .best .given .1) at (s .pre .first)) (s .pre .is-line) (g .before .before .line-at .ensures) (g .before .before .before .eastward .ensures) (g .before .eastward2 .ensures) (g .higher .ensures) (c .if1 .taken))

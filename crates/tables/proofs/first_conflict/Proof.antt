@@ -5,6 +5,7 @@ use borrow.Author.Needs.{needs}
 use Rattle.definitions.specs.Calls.{givenLine}
 use Rattle.definitions.specs.Tables.{slotsOf}
 use Rattle.geometry.specs.Means.{lineOf}
+use Rattle.geometry.specs.Range.{grid-ends}
 use Rattle.tables.specs.Sound.{hinders-at, conflicting-is, sound-at, given-on-grid, given-apart, hindersAt}
 use Rattle.tables.specs.Slots.{firstSlotOf, Onward, onward-start, onward-next, onward-found, onward-none}
 use Rattle.tables.specs.Rows.{slot-sound-at}
@@ -31,6 +32,7 @@ unfolding givenLine
 hinders-requires c κs = let l = c .before .before .before in let s = l .before .before in (
   slot-sound-at _ _ (c .row-at .ensures) ∙ sound-at _ (s .pre .slots) (c .before .loop-test .taken),
   rw (l .line-of .ensures .0, l .line-of .ensures .1) (given-apart (s .args .g) (s .pre .long)),
+  grid-ends (l .line-of .ensures) (given-on-grid _ (s .pre .onGrid)),
 )
 
 returns : tie.Need-returns Inv-loop μ-loop

@@ -4,6 +4,7 @@ use borrow.Author.Needs.{needs}
 use Rattle.definitions.specs.Tables.{lineAt, isLive}
 use Rattle.definitions.specs.Shape.{Line, conflict}
 use Rattle.geometry.specs.Means.{lineOf, lineFrom}
+use Rattle.geometry.specs.Range.{grid-ends}
 use Rattle.tables.specs.Sound.{on-map, ends-apart}
 use Rattle.tables.specs.Rows.{entriesOf}
 use Rattle.tables.proofs.hinders.Statement.{statement}
@@ -18,8 +19,12 @@ line-of-row-requires c κs = let i = c .before in let s = i .before in let m = o
 
 conflict-requires : tie.Need-conflict-requires
 unfolding entriesOf isLive lineAt
-conflict-requires c κs = let i = c .before .before in let s = i .before in
-    (rw (c .line-of-row .ensures .0, c .line-of-row .ensures .1) (ends-apart (entriesOf (s .args .row)) 0 (omega arith) (s .pre .0) (sym (i .is-live .ensures) ∙ c .before .if1 .taken)), s .pre .1)
+conflict-requires c κs = let i = c .before .before in let s = i .before in (
+  rw (c .line-of-row .ensures .0, c .line-of-row .ensures .1) (ends-apart (entriesOf (s .args .row)) 0 (omega arith) (s .pre .0) (sym (i .is-live .ensures) ∙ c .before .if1 .taken)),
+  s .pre .1,
+  (let m = on-map (entriesOf (s .args .row)) 0 (omega arith) (s .pre .0) (sym (i .is-live .ensures) ∙ c .before .if1 .taken) in grid-ends (c .line-of-row .ensures) (m .gridX1, m .gridY1, m .gridX2, m .gridY2)),
+  s .pre .2,
+)
 
 returns : tie.Need-returns
 unfolding entriesOf isLive lineAt

@@ -8,6 +8,7 @@ use borrow.Author.Needs.{needs}
 use Rattle.definitions.specs.Shape.{Area}
 use Rattle.definitions.specs.Window.{slotsIn}
 use Rattle.tables.specs.Gathered.{Front, front-fits}
+use Rattle.window.specs.Seen.{in-map}
 use Rattle.window.specs.Listed.{list-short, list-filled}
 use Rattle.window.proofs.list_window.Statement.{statement}
 use Rattle.window.proofs.list_window.Tie as tie
@@ -22,7 +23,7 @@ area-in-requires : tie.Need-area-in-requires
 area-in-requires c κs = search needs
 
 seen-slots-requires : tie.Need-seen-slots-requires
-seen-slots-requires c κs = search needs
+seen-slots-requires c κs = (search needs, search needs, search needs, rw (c .area-in .ensures) (in-map _ (c .before .before .before .before .pre .2)))
 
 returns : tie.Need-returns
 returns c = let f = c .before .before in list-short (found-in _ (f .before .area-in .ensures) (f .seen-slots .ensures)) _ (c .if1 .taken)

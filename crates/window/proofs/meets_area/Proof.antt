@@ -22,16 +22,16 @@ returns-2 c = let q = c .before in let e = q .before in let o = e .before in let
     apart-y (areaBy (s .args .k)) (lineOf (s .args .l)) (sym (o .overlap .ensures) ∙ not-false _ (e .if1 .left)) (sym (q .overlap2 .ensures) ∙ not-true _ (c .if2 .taken))
 
 turn-requires : tie.Need-turn-requires
-turn-requires c κs = search needs
+turn-requires c κs = let s = c .before .before .before .before .before .before .before .before .pre in (s .1 .first, s .1 .second, record { toEast = s .0 .west; toNorth = s .0 .south })
 
 turn-requires-2 : tie.Need-turn-requires-2
-turn-requires-2 c κs = search needs
+turn-requires-2 c κs = let s = c .before .before .before .before .before .before .before .before .before .pre in (s .1 .first, s .1 .second, record { toEast = s .0 .east; toNorth = s .0 .south })
 
 turn-requires-3 : tie.Need-turn-requires-3
-turn-requires-3 c κs = search needs
+turn-requires-3 c κs = let s = c .before .before .before .before .before .before .before .before .before .before .pre in (s .1 .first, s .1 .second, record { toEast = s .0 .west; toNorth = s .0 .north })
 
 turn-requires-4 : tie.Need-turn-requires-4
-turn-requires-4 c κs = search needs
+turn-requires-4 c κs = let s = c .before .before .before .before .before .before .before .before .before .before .before .pre in (s .1 .first, s .1 .second, record { toEast = s .0 .east; toNorth = s .0 .north })
 
 one-side-requires : tie.Need-one-side-requires
 one-side-requires c κs = search needs

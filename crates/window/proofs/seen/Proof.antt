@@ -4,6 +4,7 @@ use borrow.Author.Needs.{needs}
 use Rattle.definitions.specs.Tables.{lineAt, isLive}
 use Rattle.definitions.specs.Shape.{meetsArea}
 use Rattle.geometry.specs.Means.{lineFrom}
+use Rattle.geometry.specs.Range.{grid-ends}
 use Rattle.tables.specs.Rows.{entriesOf}
 use Rattle.tables.specs.Sound.{on-map}
 use Rattle.window.specs.Means.{areaBy}
@@ -15,10 +16,13 @@ is-live-requires c κs = search needs
 
 line-of-row-requires : tie.Need-line-of-row-requires
 unfolding entriesOf isLive
-line-of-row-requires c κs = let i = c .before in let s = i .before in let m = on-map (entriesOf (s .args .row)) 0 (omega arith) (s .pre) (sym (i .is-live .ensures) ∙ c .if1 .taken) in (m .gridX1, m .gridY1, m .gridX2, m .gridY2)
+line-of-row-requires c κs = let i = c .before in let s = i .before in let m = on-map (entriesOf (s .args .row)) 0 (omega arith) (s .pre .0) (sym (i .is-live .ensures) ∙ c .if1 .taken) in (m .gridX1, m .gridY1, m .gridX2, m .gridY2)
 
 meets-area-requires : tie.Need-meets-area-requires
-meets-area-requires c κs = search needs
+unfolding entriesOf isLive
+meets-area-requires c κs = let t = c .before in let i = t .before in let s = i .before in
+    let m = on-map (entriesOf (s .args .row)) 0 (omega arith) (s .pre .0) (sym (i .is-live .ensures) ∙ t .if1 .taken) in
+    (s .pre .1, grid-ends (c .line-of-row .ensures) (m .gridX1, m .gridY1, m .gridX2, m .gridY2))
 
 returns : tie.Need-returns
 unfolding entriesOf isLive lineAt

@@ -29,7 +29,7 @@ row-at-requires : tie.Need-row-at-requires Inv-loop μ-loop
 row-at-requires c κs = search needs
 
 seen-requires : tie.Need-seen-requires Inv-loop μ-loop
-seen-requires c κs = let l = c .before .before in let s = l .before .before .before in slot-sound-at _ _ (c .row-at .ensures) ∙ sound-at _ (s .pre .0) (c .before .loop-test .taken)
+seen-requires c κs = let l = c .before .before in let s = l .before .before .before in (slot-sound-at _ _ (c .row-at .ensures) ∙ sound-at _ (s .pre .0) (c .before .loop-test .taken), s .pre .3)
 
 cast-to : tie.Need-cast-to Inv-loop μ-loop
 cast-to c = search needs
