@@ -3,7 +3,8 @@
 use mathlib.Core.Path.{_≡_, refl}
 use mathlib.Core.Bool.{Bool, true, false}
 use mathlib.Core.List.{[], _∷_}
-use Prim.Native.Nat.{ℕ}
+use Prim.Native.Nat.{ℕ, _*_, _^_}
+use lib.Dec.{ltb}
 use lib.IntN.{ℤ, pos, negsuc}
 use Rattle.definitions.specs.declared.Kind.{Kind}
 use Rattle.definitions.specs.declared.Kind.the-variants.{Crossing, Touching, Overlap, Same}
@@ -26,9 +27,12 @@ abbrev smallest : ℕ → ℕ → Block
 smallest west south = record { west = west; south = south; side = 2 }
 
 pub record RangeCases : Type 0 where
-  -- two ends and a corner: the greatest turn of either sign, half of what a turn may be, and 0 at both corners on the line
-  pub greatest : turned 1 1 32767 1 0 32768 ∷ turned 32767 1 1 1 0 32768 ∷ turned 1 32767 32767 32767 32768 0 ∷ turned 1 1 32767 32767 32768 32768 ∷ turned 1 1 32767 32767 0 0 ∷ [] ≡ pos 1073643522 ∷ negsuc 1073643521 ∷ negsuc 1073643521 ∷ pos 0 ∷ pos 0 ∷ []
-  -- three ends: the greatest
+  -- the bound, and that 31 bits and a sign hold it
+  pub bound : 2 * 32767 * 32766 ≡ 2147287044
+  pub fits : ltb 2147287044 (2 ^ 31) ≡ true
+  -- two ends and a corner, far apart: half of the bound, by either sign; and 0 at both corners in the line
+  pub greatest : turned 1 1 32767 32767 0 32768 ∷ turned 32767 32767 1 1 0 32768 ∷ turned 1 32767 32767 1 0 0 ∷ turned 1 1 32767 1 0 32768 ∷ turned 1 1 32767 32767 32768 32768 ∷ turned 1 1 32767 32767 0 0 ∷ [] ≡ pos 1073676288 ∷ negsuc 1073676287 ∷ negsuc 1073676287 ∷ pos 1073643522 ∷ pos 0 ∷ pos 0 ∷ []
+  -- three ends, far apart
   pub ends : turned 1 1 32767 1 32767 32767 ∷ turned 32767 32767 32767 1 1 1 ∷ [] ≡ pos 1073610756 ∷ negsuc 1073610755 ∷ []
   -- next to 0: of three ends, and of two with a corner at either end of the map
   pub least : turned 1 1 32767 32765 3 3 ∷ turned 1 1 32767 32765 32765 32763 ∷ turned 1 1 32767 32765 0 0 ∷ turned 1 1 32767 32765 32768 32766 ∷ [] ≡ pos 4 ∷ negsuc 3 ∷ negsuc 1 ∷ pos 2 ∷ []
@@ -42,4 +46,4 @@ pub record RangeCases : Type 0 where
 
 range-cases : RangeCases
 unfolding turn leftOf rightOf corners meetsArea meets samePoint isEnd on within parts conflict inLineOf kindOf
-range-cases = record { greatest = refl; ends = refl; least = refl; beside = refl; kinds = refl; blocks = refl }
+range-cases = record { bound = refl; fits = refl; greatest = refl; ends = refl; least = refl; beside = refl; kinds = refl; blocks = refl }

@@ -1,7 +1,7 @@
 -- A number by its parts over and under 0, of which one is 0.
 use mathlib.Core.Path.{_≡_, refl, sym}
 use mathlib.Core.Bool.{true, false}
-use Prim.Native.Nat.{ℕ, suc, _≤_, min}
+use Prim.Native.Nat.{ℕ, suc, _+_, _≤_, min}
 use native.Mathlib.Omega.{arith}
 use lib.IntN.{ℤ, pos, negsuc, natAbs, _-ℤ_}
 use Rattle.algebra.specs.Signs.{Is, add-is, neg-is, pos-is, one-is}
@@ -31,11 +31,6 @@ unfolding overOf
 over-most (pos n) = omega arith
 over-most (negsuc n) = omega arith
 
-pub under-most : (z : ℤ) → underOf z ≤ natAbs z
-unfolding underOf
-under-most (pos n) = omega arith
-under-most (negsuc n) = omega arith
-
 -- by its sign
 pub over-negative : (z : ℤ) → isNegative z ≡ true → overOf z ≡ 0
 unfolding overOf
@@ -47,6 +42,6 @@ unfolding overOf
 over-else (pos n) e = refl
 over-else (negsuc n) e = no-path (sym e)
 
--- what it lacks of its part over 0
-pub over-less : (z : ℤ) → pos (overOf z) -ℤ z ≡ pos (underOf z)
-over-less z = one-is (add-is (pos-is (overOf z)) (neg-is (parts-is z))) (pos-is (underOf z)) (omega arith)
+-- taken from a number that has its part over 0, it leaves the part under
+pub less : (z : ℤ) (m k : ℕ) → m + underOf z ≡ k + overOf z → pos m -ℤ z ≡ pos k
+less z m k e = one-is (add-is (pos-is m) (neg-is (parts-is z))) (pos-is k) (omega arith)

@@ -1,15 +1,15 @@
 -- Where line ends and corners lie, in half-steps, and how far apart they are: what a turn is small by.
 use mathlib.Core.Path.{_≡_}
 use mathlib.Core.Bool.{Bool, true, false}
-use Prim.Native.Nat.{ℕ, _≤_}
+use Prim.Native.Nat.{ℕ, _*_, _≤_}
 use native.Mathlib.Omega.{arith}
 use lib.Dec.{ltb}
-use lib.IntN.{natAbs, subℕ}
-use Rattle.algebra.specs.Size.{abs-subℕ}
+use lib.IntN.{natAbs, subℕ, _*ℤ_}
+use Rattle.algebra.specs.Size.{abs-subℕ, abs-sub-le, abs-mul-le}
 use Rattle.algebra.specs.Words.{if_then_else_}
 use Rattle.definitions.specs.declared.Point.{Point}
 use Rattle.definitions.specs.Lookup.{westEnd, eastEnd}
-use Rattle.definitions.specs.Shape.{Line, gridPoint}
+use Rattle.definitions.specs.Shape.{Line, gridPoint, turn}
 
 -- a grid point, as every line end is: 1 to 32,767 each way
 pub record End (p : Point) : Type 0 where
@@ -65,3 +65,14 @@ module _ {a c : Point} (e : End a) (f : EndOrCorner c) where
 
   pub corner-y : natAbs (subℕ (c .y .0) (a .y .0)) ≤ 32767
   corner-y = abs-subℕ (c .y .0) (a .y .0) 32767 (omega (arith, e, f)) (omega (arith, e, f))
+
+-- ---- So the turn: at most two products of these
+
+pub turn-within : {a b c : Point} → End a → End b → EndOrCorner c → natAbs (turn a b c) ≤ 2 * 32767 * 32766
+unfolding turn
+turn-within {a} {b} {c} e f g =
+    let bx-ax = subℕ (b .x .0) (a .x .0) in
+    let cy-ay = subℕ (c .y .0) (a .y .0) in
+    let by-ay = subℕ (b .y .0) (a .y .0) in
+    let cx-ax = subℕ (c .x .0) (a .x .0) in
+    abs-sub-le (bx-ax *ℤ cy-ay) (by-ay *ℤ cx-ax) 1073643522 1073643522 (abs-mul-le bx-ax cy-ay 32766 32767 (ends-x e f) (corner-y e g)) (abs-mul-le by-ay cx-ax 32766 32767 (ends-y e f) (corner-x e g))
