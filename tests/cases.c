@@ -364,6 +364,8 @@ static const struct {
     enum told told;
 } far_pairs[] = {
     { "the diagonals", { 0, 0, L, L }, { 0, L, L, 0 }, { GREATEST, -GREATEST }, CROSSING },
+    { "from a corner to a step below the diagonal's end", { 0, 0, L, L }, { 0, L, L, B }, { GREATEST, -STEP }, CROSSING },
+    { "from a corner to a step above its other end", { 0, 0, L, L }, { L, 0, 0, 1 }, { -GREATEST, STEP }, CROSSING },
     { "parallel, a step above the diagonal", { 0, 0, L, L }, { 0, 1, B, L }, { STEP, STEP }, NO_ROOM },
     { "parallel, a step below the diagonal", { 0, 0, L, L }, { 1, 0, L, B }, { -STEP, -STEP }, NO_ROOM },
     { "parallel, a step below the falling diagonal", { 0, L, L, 0 }, { 0, B, B, 0 }, { -STEP, -STEP }, NO_ROOM },
