@@ -59,27 +59,39 @@ executed() {
       END { print n, calls + 0 }'
 }
 
-row() { printf '%-34s %12s %12s %12s %12s\n' "$@"; }
-
-mkdir -p $out
-for bits in 32 64; do
-  linked arm-$bits -march=armv5te -marm -DTURNS_$bits
-  linked thumb-$bits -march=armv5te -mthumb -DTURNS_$bits
-  compiled twin m-$bits -march=armv6-m -mthumb -DTURNS_$bits
-done
-short='^(mul|mla|mls)' long='^[su](mul|mla)l'
-printf '%-34s %12s %12s\n' 'in the code of the twin' '32 bits' '64 bits'
-printf '%-34s %12s %12s\n' 'armv5te: products' "$(found arm-32-twin "$short")" "$(found arm-64-twin "$short")"
-printf '%-34s %12s %12s\n' 'armv5te: long products' "$(found arm-32-twin "$long")" "$(found arm-64-twin "$long")"
-printf '%-34s %12s %12s\n' 'armv6-m: products' "$(found m-32 "$short")" "$(found m-64 "$short")"
-printf '%-34s %12s %12s\n' 'armv6-m: calls of __aeabi_lmul' "$(called m-32)" "$(called m-64)"
-printf '%-34s %12s %12s\n' 'armv6-m: bytes' "$(bytes m-32)" "$(bytes m-64)"
-echo
-row "executed on $map" '32 bits' '64 bits' 'routine: 32' '64'
-for call in soundness insert locate10000; do
-  for code in arm thumb; do
-    # shellcheck disable=SC2046
-    set -- $(executed $code-32 $call) $(executed $code-64 $call)
-    row "$code: $call" "$1" "$3" "$2" "$4"
+compile_all() {
+  local bits
+  mkdir -p $out
+  for bits in 32 64; do
+    linked arm-$bits -march=armv5te -marm -DTURNS_$bits
+    linked thumb-$bits -march=armv5te -mthumb -DTURNS_$bits
+    compiled twin m-$bits -march=armv6-m -mthumb -DTURNS_$bits
   done
-done
+}
+
+row() { printf '%-32s %12s %12s %12s %12s\n' "$@"; }
+
+tell_code() {
+  local short='^(mul|mla|mls)' long='^[su](mul|mla)l'
+  row 'in the code of the twin' '32 bits' '64 bits' '' ''
+  row 'armv5te: products' "$(found arm-32-twin "$short")" "$(found arm-64-twin "$short")" '' ''
+  row 'armv5te: long products' "$(found arm-32-twin "$long")" "$(found arm-64-twin "$long")" '' ''
+  row 'armv6-m: products' "$(found m-32 "$short")" "$(found m-64 "$short")" '' ''
+  row 'armv6-m: calls of __aeabi_lmul' "$(called m-32)" "$(called m-64)" '' ''
+  row 'armv6-m: bytes' "$(bytes m-32)" "$(bytes m-64)" '' ''
+}
+
+tell_executed() {
+  local what
+  row "executed on $map" '32 bits' '64 bits' 'calls: 32' '64'
+  for what in arm:soundness arm:insert arm:locate10000 thumb:soundness thumb:insert thumb:locate10000; do
+    # shellcheck disable=SC2046
+    set -- $(executed ${what%:*}-32 ${what#*:}) $(executed ${what%:*}-64 ${what#*:})
+    row "$what" "$1" "$3" "$2" "$4"
+  done
+}
+
+compile_all
+tell_code
+echo
+tell_executed
