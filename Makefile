@@ -7,6 +7,7 @@
 # make bench     times every call on the maps of bench/maps, beside a twin in C and the naive way
 # make bench-windows  times windows beside the scan alone and walks of the tree
 # make bench-instructions  counts instructions with callgrind, where the machine is noisy
+# make bench-arm  counts the twin's products on 32-bit Arm, its turns in 32 and in 64 bits, where gcc-arm-linux-gnueabi is installed
 # make bench-others  sets the library beside GEOS and Boost, where libgeos-dev and libboost-dev are installed
 # make performance  writes docs/PERFORMANCE.md and its picture anew from both
 # make bench-maps   writes the made maps of bench/maps anew
@@ -101,6 +102,9 @@ bench-windows: build/bench/windows
 bench-instructions: build/bench/count
 	@bench/instructions.sh
 
+bench-arm:
+	@bench/arm.sh
+
 # GEOS and Boost are looked for when they are asked for, and only then.
 OTHERS = $(patsubst %,bench/%.cpp,others others-boost others-geos others-polygons)
 lacks = $(shell $(CXX) -E -x c++ -include $(1) /dev/null > /dev/null 2>&1 || echo $(2))
@@ -149,4 +153,4 @@ install: build/boundary-map
 clean:
 	rm -rf build
 
-.PHONY: all demo capacity check test valgrind bench bench-windows bench-instructions bench-others bench-maps performance stack examples install clean
+.PHONY: all demo capacity check test valgrind bench bench-windows bench-instructions bench-arm bench-others bench-maps performance stack examples install clean

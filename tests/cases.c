@@ -1,6 +1,6 @@
-/* Document 01's numbers, P1 to P11 and the case that is only run, pairs of lines of each kind of conflict, and windows,
- * over the C boundary. Each is written out here by hand and asked twice: of the library, and of the plain search that
- * the other tests rest on. */
+/* Document 01's numbers, P1 to P11 and the case that is only run, pairs of lines of each kind of conflict, windows, and
+ * the corners of the grid, over the C boundary. Each is written out here by hand and asked twice: of the library, and of
+ * the plain search that the other tests rest on. */
 #include "library.h"
 #include "plain.h"
 
@@ -335,6 +335,217 @@ static void lowest_slot_kind(void)
     EXPECT(insert(8, 5, 6, 5) == refused(5, 262144 + 2));
 }
 
+/* The corners of the grid, and the grid points a step beside them: here the numbers that geometry works with are
+ * greatest and least. The turn of three points is (bx-ax)(cy-ay) - (by-ay)(cx-ax), in half-steps. Of three grid points it
+ * is at most 32,766 x 32,766 = GREATEST, and if it is not 0 at least 4. With a corner of the whole map as the third point,
+ * at half-step 0 or 32,768, it comes to 32,766 x 32,767 for a side of the grid, and for a diagonal to 32,766 x 32,768. */
+
+/* The last grid number and the one before it; the turn of a point a step beside a line as long as the map. */
+enum { L = 16383, B = 16382, STEP = 65532, GREATEST = 1073610756 };
+
+static int64_t turn_of(const uint16_t l[4], uint16_t x, uint16_t y)
+{
+    return 4 * ((int64_t)(l[2] - l[0]) * (y - l[1]) - (int64_t)(l[3] - l[1]) * (x - l[0]));
+}
+
+/* A kind of conflict; or none, and then the tree may be too large, as it is of lines a step apart all across the map. */
+enum told { TAKEN, CROSSING, TOUCHING, OVERLAP, SAME, NO_ROOM };
+
+static uint64_t second_insert(enum told told)
+{
+    return told == TAKEN ? 65536 + 1 : told == NO_ROOM ? refused(7, 0) : refused(5, (uint64_t)told * 65536);
+}
+
+/* Two lines, the turns that the first makes with the ends of the other, and what the second of them is told. */
+static const struct {
+    const char *how;
+    uint16_t one[4], other[4];
+    int32_t turns[2];
+    enum told told;
+} far_pairs[] = {
+    { "the diagonals", { 0, 0, L, L }, { 0, L, L, 0 }, { GREATEST, -GREATEST }, CROSSING },
+    { "from a corner to a step below the diagonal's end", { 0, 0, L, L }, { 0, L, L, B }, { GREATEST, -STEP }, CROSSING },
+    { "from a corner to a step above its other end", { 0, 0, L, L }, { L, 0, 0, 1 }, { -GREATEST, STEP }, CROSSING },
+    { "parallel, a step above the diagonal", { 0, 0, L, L }, { 0, 1, B, L }, { STEP, STEP }, NO_ROOM },
+    { "parallel, a step below the diagonal", { 0, 0, L, L }, { 1, 0, L, B }, { -STEP, -STEP }, NO_ROOM },
+    { "parallel, a step below the falling diagonal", { 0, L, L, 0 }, { 0, B, B, 0 }, { -STEP, -STEP }, NO_ROOM },
+    { "parallel, a step above the falling diagonal", { 0, L, L, 0 }, { 1, L, L, 1 }, { STEP, STEP }, NO_ROOM },
+    { "from the diagonal's second point down to a corner", { 0, 0, L, L }, { 1, 1, L, 0 }, { 0, -GREATEST }, TOUCHING },
+    { "from a corner to the diagonal's last point but one", { 0, 0, L, L }, { 0, L, B, B }, { GREATEST, 0 }, TOUCHING },
+    { "from the falling diagonal's second point", { 0, L, L, 0 }, { 1, B, 0, 0 }, { 0, -GREATEST }, TOUCHING },
+    { "the same, the other way", { 0, L, L, 0 }, { 1, B, L, L }, { 0, GREATEST }, TOUCHING },
+    { "the diagonal without its ends", { 0, 0, L, L }, { 1, 1, B, B }, { 0, 0 }, OVERLAP },
+    { "the diagonal without one end", { 0, 0, L, L }, { 0, 0, B, B }, { 0, 0 }, OVERLAP },
+    { "the diagonal's first step", { 0, 0, L, L }, { 0, 0, 1, 1 }, { 0, 0 }, OVERLAP },
+    { "the diagonal moved along itself by a step", { 0, 0, B, B }, { 1, 1, L, L }, { 0, 0 }, OVERLAP },
+    { "the diagonal twice", { 0, 0, L, L }, { 0, 0, L, L }, { 0, 0 }, SAME },
+    { "in line from corner to corner, and apart", { 0, 0, 1, 1 }, { B, B, L, L }, { 0, 0 }, TAKEN },
+    { "straight on", { 0, 0, 1, 1 }, { 1, 1, L, L }, { 0, 0 }, TAKEN },
+    { "across the diagonal next to its first end", { 0, 0, L, L }, { 0, 1, 1, 0 }, { STEP, -STEP }, CROSSING },
+    { "across the diagonal next to its last end", { 0, 0, L, L }, { B, L, L, B }, { STEP, -STEP }, CROSSING },
+    { "from a step above the diagonal to a step below", { 0, 0, L, L }, { 0, 1, L, B }, { STEP, -STEP }, CROSSING },
+    { "a step apart at the far end", { 0, 0, L, L }, { 0, 0, L, B }, { 0, -STEP }, NO_ROOM },
+    { "a side and the diagonal", { 0, 0, L, L }, { 0, 0, L, 0 }, { 0, -GREATEST }, TAKEN },
+    { "the diagonal and the north side", { 0, 0, L, L }, { 0, L, L, L }, { GREATEST, 0 }, TAKEN },
+    { "crossing, left of an end by the least", { 0, 0, L, B }, { 1, 1, 1, 0 }, { 4, -65528 }, CROSSING },
+    { "crossing far off, left of an end by the least", { 0, 0, L, B }, { 1, 1, L, 0 }, { 4, -1073545224 }, CROSSING },
+    { "apart, to the left by the least", { 0, 0, L, B }, { 1, 1, 0, 1 }, { 4, STEP }, TAKEN },
+    { "apart, to the left by the least and by the greatest", { 0, 0, L, B }, { 1, 1, 0, L }, { 4, GREATEST }, TAKEN },
+    { "one end shared, to the left by the least", { 0, 0, L, B }, { 1, 1, 0, 0 }, { 4, 0 }, TAKEN },
+    { "crossing, right of an end by the least", { 0, 0, B, L }, { 1, 1, 0, 1 }, { -4, 65528 }, CROSSING },
+    { "crossing far off, right of an end by the least", { 0, 0, B, L }, { 1, 1, 0, L }, { -4, 1073545224 }, CROSSING },
+    { "apart, to the right by the least", { 0, 0, B, L }, { 1, 1, 1, 0 }, { -4, -STEP }, TAKEN },
+    { "apart, to the right by the least and by the greatest", { 0, 0, B, L }, { 1, 1, L, 0 }, { -4, -GREATEST }, TAKEN },
+    { "one end shared, to the right by the least", { 0, 0, B, L }, { 1, 1, 0, 0 }, { -4, 0 }, TAKEN },
+    { "crossing at the far corner by the least", { 0, 1, L, L }, { B, B, B, L }, { -4, 65528 }, CROSSING },
+    { "apart at the far corner by the least", { 0, 1, L, L }, { B, B, L, B }, { -4, -STEP }, TAKEN },
+    { "crossing at the far corner, on the other side", { 1, 0, L, L }, { B, B, L, B }, { 4, -65528 }, CROSSING },
+    { "apart at the far corner, on the other side", { 1, 0, L, L }, { B, B, B, L }, { 4, STEP }, TAKEN },
+    { "the south and the north side", { 0, 0, L, 0 }, { 0, L, L, L }, { GREATEST, GREATEST }, TAKEN },
+    { "the north and the south side", { 0, L, L, L }, { 0, 0, L, 0 }, { -GREATEST, -GREATEST }, TAKEN },
+    { "the west and the east side", { 0, 0, 0, L }, { L, 0, L, L }, { -GREATEST, -GREATEST }, TAKEN },
+    { "the south and the west side", { 0, 0, L, 0 }, { 0, 0, 0, L }, { 0, GREATEST }, TAKEN },
+    { "touching the south side a step from its end", { 0, 0, L, 0 }, { 1, 0, L, L }, { 0, GREATEST }, TOUCHING },
+    { "touching it a step from its other end", { 0, 0, L, 0 }, { 0, L, B, 0 }, { GREATEST, 0 }, TOUCHING },
+    { "touching the west side a step from its end", { 0, 0, 0, L }, { 0, 1, L, 0 }, { 0, -GREATEST }, TOUCHING },
+    { "a part of the south side", { 0, 0, L, 0 }, { 1, 0, B, 0 }, { 0, 0 }, OVERLAP },
+    { "a part of the west side", { 0, 0, 0, L }, { 0, 1, 0, L }, { 0, 0 }, OVERLAP },
+    { "both ends of the south side", { 0, 0, 1, 0 }, { B, 0, L, 0 }, { 0, 0 }, TAKEN },
+    { "both ends of the west side", { 0, 0, 0, 1 }, { 0, B, 0, L }, { 0, 0 }, TAKEN },
+    { "a step beside the south side", { 0, 0, L, 0 }, { 0, 1, L, 1 }, { STEP, STEP }, NO_ROOM },
+    { "a step beside the west side", { 0, 0, 0, L }, { 1, 0, 1, L }, { -STEP, -STEP }, NO_ROOM },
+    { "changing over along the south side", { 0, 1, L, 0 }, { 0, 0, L, 1 }, { -STEP, STEP }, CROSSING },
+    { "nearly level and nearly upright", { 0, 1, L, 1 }, { 0, 0, 1, L }, { -STEP, 1073545224 }, CROSSING },
+};
+
+/* The line, or its ends changed over. */
+static uint64_t insert_either_way(const uint16_t l[4], int over)
+{
+    if (over)
+        return insert_labelled(l[2], l[3], l[0], l[1], 9, 7);
+    return insert_labelled(l[0], l[1], l[2], l[3], 7, 9);
+}
+
+/* Either line first, and either line turned over: it is always told the same. */
+static void put_far_pair(size_t i)
+{
+    const uint16_t *const lines_of[2] = { far_pairs[i].one, far_pairs[i].other };
+    int way;
+
+    for (way = 0; way < 8; way++) {
+        fresh_large();
+        EXPECT(insert_either_way(lines_of[way & 1], way & 2) == 1);
+        expect(insert_either_way(lines_of[1 - (way & 1)], way & 4) == second_insert(far_pairs[i].told), far_pairs[i].how);
+    }
+}
+
+static void far_kinds(void)
+{
+    size_t i;
+
+    for (i = 0; i < sizeof far_pairs / sizeof *far_pairs; i++) {
+        const uint16_t *one = far_pairs[i].one, *other = far_pairs[i].other;
+
+        EXPECT(turn_of(one, other[0], other[1]) == far_pairs[i].turns[0]);
+        EXPECT(turn_of(one, other[2], other[3]) == far_pairs[i].turns[1]);
+        put_far_pair(i);
+    }
+}
+
+/* One line with label 7 above it, a point, its turn, and what it is answered. */
+enum { ABOVE = 7, ON_IT = 65536 };
+
+static const struct {
+    const char *how;
+    uint16_t line[4], point[2];
+    int32_t turn;
+    uint32_t answer;
+} far_points[] = {
+    { "the diagonal's first end", { 0, 0, L, L }, { 0, 0 }, 0, ON_IT },
+    { "the diagonal's second point", { 0, 0, L, L }, { 1, 1 }, 0, ON_IT },
+    { "the diagonal's last point but one", { 0, 0, L, L }, { B, B }, 0, ON_IT },
+    { "the diagonal's last end", { 0, 0, L, L }, { L, L }, 0, ON_IT },
+    { "a step above its first end", { 0, 0, L, L }, { 0, 1 }, STEP, ABOVE },
+    { "a step below its second point", { 0, 0, L, L }, { 1, 0 }, -STEP, 0 },
+    { "a step above its last point but one", { 0, 0, L, L }, { B, L }, STEP, ABOVE },
+    { "a step below its last point", { 0, 0, L, L }, { L, B }, -STEP, 0 },
+    { "the corner above the diagonal", { 0, 0, L, L }, { 0, L }, GREATEST, ABOVE },
+    { "the corner below the diagonal", { 0, 0, L, L }, { L, 0 }, -GREATEST, 0 },
+    { "the corner below the falling diagonal", { 0, L, L, 0 }, { 0, 0 }, -GREATEST, 0 },
+    { "the corner above it, over its east end", { 0, L, L, 0 }, { L, L }, GREATEST, 0 },
+    { "a step west of that", { 0, L, L, 0 }, { B, L }, 1073545224, ABOVE },
+    { "the falling diagonal's second point", { 0, L, L, 0 }, { 1, B }, 0, ON_IT },
+    { "the falling diagonal's last point but one", { 0, L, L, 0 }, { B, 1 }, 0, ON_IT },
+    { "a step below it", { 0, L, L, 0 }, { B, 0 }, -STEP, 0 },
+    { "a step above its second point", { 0, L, L, 0 }, { 1, L }, STEP, ABOVE },
+    { "above by the least", { 0, 0, L, B }, { 1, 1 }, 4, ABOVE },
+    { "below by the least", { 0, 0, B, L }, { 1, 1 }, -4, 0 },
+    { "above by the least, at the far corner", { 1, 0, L, L }, { B, B }, 4, ABOVE },
+    { "below by the least, at the far corner", { 0, 1, L, L }, { B, B }, -4, 0 },
+    { "over the east end by little", { 0, 0, L, B }, { L, L }, STEP, 0 },
+    { "far above the south side", { 0, 0, L, 0 }, { 0, L }, GREATEST, ABOVE },
+    { "far above the south side's last point but one", { 0, 0, L, 0 }, { B, L }, GREATEST, ABOVE },
+    { "far above the south side's east end", { 0, 0, L, 0 }, { L, L }, GREATEST, 0 },
+    { "a step above the south side", { 0, 0, L, 0 }, { 1, 1 }, STEP, ABOVE },
+    { "on the south side", { 0, 0, L, 0 }, { B, 0 }, 0, ON_IT },
+    { "far below the north side", { 0, L, L, L }, { 0, 0 }, -GREATEST, 0 },
+    { "far below the north side's end", { 0, L, L, L }, { L, 0 }, -GREATEST, 0 },
+    { "on the north side", { 0, L, L, L }, { 1, L }, 0, ON_IT },
+    { "on the west side", { 0, 0, 0, L }, { 0, B }, 0, ON_IT },
+    { "far east of the west side", { 0, 0, 0, L }, { L, L }, -GREATEST, 0 },
+    { "far west of the east side", { L, 0, L, L }, { 0, L }, GREATEST, 0 },
+    { "in line with an upright line, far above it", { 0, 0, 0, 1 }, { 0, L }, 0, 0 },
+    { "in line with a slanted line, far beyond it", { 0, 0, 1, 1 }, { B, B }, 0, 0 },
+    { "in line with a level line, far beyond it", { 0, 0, 1, 0 }, { L, 0 }, 0, 0 },
+};
+
+static void points_told(void)
+{
+    size_t i;
+
+    for (i = 0; i < 2 * (sizeof far_points / sizeof *far_points); i++) {
+        const uint16_t *l = far_points[i / 2].line, *p = far_points[i / 2].point;
+
+        fresh_large();
+        EXPECT(turn_of(l, p[0], p[1]) == far_points[i / 2].turn);
+        EXPECT(insert_either_way(l, i % 2 == 1) == 1);
+        expect(locate(p[0], p[1]) == far_points[i / 2].answer, far_points[i / 2].how);
+    }
+}
+
+/* The tree of one line: how many lines each son of the whole map lists, NW, NE, SW, SE. Through the middle it meets all
+ * four; a step aside at one end it misses one. Of the map's corners the two off a diagonal have the turns 1,073,676,288
+ * and -1,073,676,288, the two behind its ends have 0. */
+static const struct {
+    uint16_t line[4], sons[4];
+} far_trees[] = {
+    { { 0, 0, L, L }, { 1, 1, 1, 1 } }, { { 0, L, L, 0 }, { 1, 1, 1, 1 } },
+    { { 0, 0, L, B }, { 0, 1, 1, 1 } }, { { 0, 0, B, L }, { 1, 1, 1, 0 } },
+    { { 0, 1, L, L }, { 1, 1, 1, 0 } }, { { 1, 0, L, L }, { 0, 1, 1, 1 } },
+    { { 0, L, L, 1 }, { 1, 1, 0, 1 } }, { { 0, L, B, 0 }, { 1, 0, 1, 1 } },
+    { { 0, B, L, 0 }, { 1, 0, 1, 1 } }, { { 1, L, L, 0 }, { 1, 1, 0, 1 } },
+    { { 0, 0, L, 0 }, { 0, 0, 1, 1 } }, { { 0, L, L, L }, { 1, 1, 0, 0 } },
+    { { 0, 0, 0, L }, { 1, 0, 1, 0 } }, { { L, 0, L, L }, { 0, 1, 0, 1 } },
+    { { 0, 1, L, 0 }, { 0, 0, 1, 1 } }, { { 1, 0, 0, L }, { 1, 0, 1, 0 } },
+};
+
+static void far_trees_built(void)
+{
+    const uint16_t no_slot_but_0[4] = { 0, 0, 0, 0 };
+    size_t i, listed;
+
+    for (i = 0; i < 2 * (sizeof far_trees / sizeof *far_trees); i++) {
+        const uint16_t *sons = far_trees[i / 2].sons;
+        const uint16_t tree[5] = { 65535, sons[0], sons[1], sons[2], sons[3] };
+
+        listed = (size_t)sons[0] + sons[1] + sons[2] + sons[3];
+        fresh_large();
+        EXPECT(insert_either_way(far_trees[i / 2].line, i % 2 == 1) == 1);
+        EXPECT(reads(nodes, node_room, tree, 5));
+        EXPECT(reads(listings, listing_room, no_slot_but_0, listed));
+    }
+}
+
 /* Windows. The list holds noise before each call, and one more entry than any of them is lent. */
 
 enum { LIST = 6 };
@@ -419,6 +630,67 @@ static void windows_meet(void)
         EXPECT(insert(l[0], l[1], l[2], l[3]) == 1);
         expect(window(r[0], r[1], r[2], r[3], 5) == told, rectangles[i].how);
         expect(tells(slot_0, told), rectangles[i].how);
+    }
+}
+
+/* The same at the corners of the grid, of lines from corner to corner. */
+static const struct {
+    const char *how;
+    uint16_t line[4], rectangle[4];
+    int meet;
+} far_rectangles[] = {
+    { "the diagonal, the whole map", { 0, 0, L, L }, { 0, 0, L, L }, 1 },
+    { "the diagonal, the corner at its first end", { 0, 0, L, L }, { 0, 0, 0, 0 }, 1 },
+    { "the diagonal, the corner at its last end", { 0, 0, L, L }, { L, L, L, L }, 1 },
+    { "the diagonal, the corner to its left, by the greatest turn", { 0, 0, L, L }, { 0, L, 0, L }, 0 },
+    { "the diagonal, the corner to its right, by the greatest turn", { 0, 0, L, L }, { L, 0, L, 0 }, 0 },
+    { "the diagonal's second point", { 0, 0, L, L }, { 1, 1, 1, 1 }, 1 },
+    { "a step above the diagonal's first end", { 0, 0, L, L }, { 0, 1, 0, 1 }, 0 },
+    { "a step below the diagonal's last end", { 0, 0, L, L }, { L, B, L, B }, 0 },
+    { "the diagonal, the north-west with but a corner on it", { 0, 0, L, L }, { 0, 1, 1, L }, 1 },
+    { "the diagonal, the north-west a step narrower", { 0, 0, L, L }, { 0, 1, 0, L }, 0 },
+    { "the diagonal, the north-west up to its last point but one", { 0, 0, L, L }, { 0, B, B, L }, 1 },
+    { "the diagonal, the north side short of its end", { 0, 0, L, L }, { 0, L, B, L }, 0 },
+    { "the diagonal, the south-east with but a corner on it", { 0, 0, L, L }, { B, 0, L, B }, 1 },
+    { "the diagonal, the south-east a step narrower", { 0, 0, L, L }, { L, 0, L, B }, 0 },
+    { "a strip all along the diagonal's ground, south", { 0, 0, L, L }, { 0, 0, L, 1 }, 1 },
+    { "a strip all along the diagonal's ground, a step off", { 0, 0, L, L }, { 1, 0, L, 0 }, 0 },
+    { "the falling diagonal, the corner below it", { 0, L, L, 0 }, { 0, 0, 1, 1 }, 0 },
+    { "the falling diagonal, the corner above it", { 0, L, L, 0 }, { B, B, L, L }, 0 },
+    { "the falling diagonal, from below with but a corner on it", { 0, L, L, 0 }, { 0, 0, B, 1 }, 1 },
+    { "the falling diagonal, from below a step lower", { 0, L, L, 0 }, { 0, 0, B, 0 }, 0 },
+    { "the falling diagonal, from above with but a corner on it", { 0, L, L, 0 }, { 1, B, L, L }, 1 },
+    { "the falling diagonal, from above a step higher", { 0, L, L, 0 }, { 1, L, L, L }, 0 },
+    { "above by the least turn", { 0, 0, L, B }, { 0, 1, 1, L }, 0 },
+    { "above by the least turn, and across", { 0, 0, L, B }, { 0, 1, B, L }, 1 },
+    { "below by the least turn", { 0, 0, B, L }, { 1, 0, L, 1 }, 0 },
+    { "below by the least turn, and across", { 0, 0, B, L }, { 0, 1, 1, L }, 1 },
+    { "below by the least turn, at the far corner", { 0, 1, L, L }, { B, 0, L, B }, 0 },
+    { "above by the least turn, at the far corner", { 1, 0, L, L }, { 0, B, B, L }, 0 },
+    { "the same to the last end", { 1, 0, L, L }, { 0, B, L, L }, 1 },
+    { "the south side, the whole map", { 0, 0, L, 0 }, { 0, 0, L, L }, 1 },
+    { "the south side, a step north of it", { 0, 0, L, 0 }, { 0, 1, L, L }, 0 },
+    { "the north side, the whole map", { 0, L, L, L }, { 0, 0, L, L }, 1 },
+    { "the north side, a step south of it", { 0, L, L, L }, { 0, 0, L, B }, 0 },
+    { "the east side, the whole map", { L, 0, L, L }, { 0, 0, L, L }, 1 },
+    { "the east side, a step west of it", { L, 0, L, L }, { 0, 0, B, L }, 0 },
+    { "nearly level, below its west end", { 0, 1, L, 0 }, { 0, 0, B, 0 }, 0 },
+    { "nearly level, above its east end", { 0, 1, L, 0 }, { 1, 1, L, 1 }, 0 },
+};
+
+static void far_windows(void)
+{
+    const uint16_t slot_0[1] = { 0 };
+    size_t i;
+
+    for (i = 0; i < 2 * (sizeof far_rectangles / sizeof *far_rectangles); i++) {
+        const uint16_t *r = far_rectangles[i / 2].rectangle;
+        size_t told = far_rectangles[i / 2].meet ? 1 : 0;
+
+        fresh_large();
+        EXPECT(insert_either_way(far_rectangles[i / 2].line, i % 2 == 1) == 1);
+        expect(window(r[0], r[1], r[2], r[3], 5) == told, far_rectangles[i / 2].how);
+        expect(tells(slot_0, told), far_rectangles[i / 2].how);
     }
 }
 
@@ -519,6 +791,8 @@ static const struct {
     { "P1", p1 }, { "P2", p2 }, { "P3", p3 }, { "P4", p4 },    { "P5", p5 },   { "P6", p6 },
     { "P7", p7 }, { "P8", p8 }, { "P9", p9 }, { "P10", p10 },  { "P11", p11 }, { "the run case", run_only },
     { "the kinds", kinds }, { "the lowest slot's kind", lowest_slot_kind },
+    { "lines at the corners", far_kinds }, { "points at the corners", points_told },
+    { "trees of lines at the corners", far_trees_built }, { "windows at the corners", far_windows },
     { "windows", windows_meet }, { "the list of a window", windows_list }, { "windows refused", windows_refused },
 };
 

@@ -38,6 +38,11 @@ void part_windows(void);
 /* Prints what windows came to, those that other parts asked for too, and says how many things were never seen. */
 int report_windows(void);
 
+/* bounds.c: the least and the greatest coordinates */
+void part_bounds(void);
+/* Prints what it met of the greatest turns and the least, and says how many things it never met. */
+int report_bounds(void);
+
 /* What all use */
 
 struct stroke {
@@ -64,6 +69,8 @@ uint64_t insert_stroke(const struct stroke *s);
 int lies_on(uint16_t x, uint16_t y, const struct stroke *s);
 /* Finds a live slot by trying a few; where its entries begin, or -1. */
 long some_line(void);
+/* The line whose entries begin there. */
+struct stroke stroke_at(size_t at);
 /* A grid point of the straight line through a slot's line: on it, or past an end if asked so. */
 void along_line(size_t at, int past, uint16_t *x, uint16_t *y);
 /* Writes it into a slot as a live line of some generation, with no call and no question asked. */

@@ -31,7 +31,7 @@ static uint16_t upper(uint16_t a, uint16_t b)
     return a > b ? a : b;
 }
 
-static struct stroke stroke_at(size_t at)
+struct stroke stroke_at(size_t at)
 {
     struct stroke s;
 

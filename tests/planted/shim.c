@@ -138,6 +138,22 @@ static int is_label(uint32_t found)
     return found < 65536;
 }
 
+static long long turn(const uint16_t *l, long long x, long long y)
+{
+    return ((long long)l[X2] - l[X1]) * (y - l[Y1]) - ((long long)l[Y2] - l[Y1]) * (x - l[X1]);
+}
+
+/* A turn in half-steps as too narrow a product would leave it: of more than this size it comes out with the other sign. No turn
+ * of three grid points is past 2^30; the greatest is 32,766 x 32,766. */
+enum { IN_30_BITS = 536870911, ALL_BUT_GREATEST = 1073610755 };
+
+static long long narrow_turn(const uint16_t *l, const uint16_t *point, long long most)
+{
+    long long t = 4 * turn(l, point[0], point[1]);
+
+    return t > most || t < -most ? -t : t;
+}
+
 /* Insert */
 
 static uint32_t conflict_slot(uint64_t result)
@@ -218,6 +234,31 @@ static uint64_t reversed_is_overlap(struct tables t, const uint16_t *l)
     if (refusal(result) != 5 || conflict_kind(result) != 4 || memcmp(slot_at(t, conflict_slot(result)) + X1, l, 8) == 0)
         return result;
     return conflict(3, conflict_slot(result));
+}
+
+static int parts_ends(const uint16_t *l, const uint16_t *m, long long most)
+{
+    long long a = narrow_turn(l, m + X1, most), b = narrow_turn(l, m + X2, most);
+
+    return (a > 0 && b < 0) || (a < 0 && b > 0);
+}
+
+/* Of a crossing told: whether narrow turns see no such thing. */
+static int crossing_unseen(struct tables t, const uint16_t *l, uint64_t result, long long most)
+{
+    const uint16_t given[8] = { 1, 1, l[0], l[1], l[2], l[3], l[4], l[5] }, *s;
+
+    if (refusal(result) != 5 || conflict_kind(result) != 1)
+        return 0;
+    s = slot_at(t, conflict_slot(result));
+    return !parts_ends(s, given, most) || !parts_ends(given, s, most);
+}
+
+static uint64_t narrow_turns_tell_kind(struct tables t, const uint16_t *l)
+{
+    uint64_t result = insert(t, l);
+
+    return crossing_unseen(t, l, result, ALL_BUT_GREATEST) ? conflict(2, conflict_slot(result)) : result;
 }
 
 static uint64_t changes_last_leaf(struct tables t, const uint16_t *l)
@@ -416,7 +457,20 @@ static uint64_t keeps_one_listing_back(struct tables t, const uint16_t *l)
     return refuse(7);
 }
 
-/* A line from the middle of another is taken, as if only crossing were conflict; tables are left alone. */
+/* The handle of a line that is taken against the rule; tables are left alone. */
+static uint64_t next_handle(struct tables t)
+{
+    return free_slot(t) * 65536 + slot_at(t, free_slot(t))[GENERATION] + 1;
+}
+
+static uint64_t narrow_turns_miss_crossing(struct tables t, const uint16_t *l)
+{
+    uint64_t result = insert(t, l);
+
+    return free_slot(t) < slots(t) && crossing_unseen(t, l, result, IN_30_BITS) ? next_handle(t) : result;
+}
+
+/* A line from the middle of another is taken, as if only crossing were conflict. */
 static uint64_t touching_is_no_conflict(struct tables t, const uint16_t *l)
 {
     uint64_t result = insert(t, l);
@@ -427,7 +481,7 @@ static uint64_t touching_is_no_conflict(struct tables t, const uint16_t *l)
     s = slot_at(t, conflict_slot(result));
     if (s[Y1] != s[Y2] || l[1] != s[Y1] || l[3] == s[Y1])
         return result;
-    return free_slot(t) * 65536 + slot_at(t, free_slot(t))[GENERATION] + 1;
+    return next_handle(t);
 }
 
 /* Delete */
@@ -583,6 +637,21 @@ static void take_highest_slot(struct tables t, const uint16_t *point, uint32_t *
     }
 }
 
+/* A line below by a turn that comes out with the other sign is not seen. */
+static void narrow_turns_miss_line(struct tables t, const uint16_t *point, uint32_t *found)
+{
+    size_t i;
+
+    for (i = 0; i < slots(t) && is_label(*found); i++) {
+        const uint16_t *l = slot_at(t, i), *from = west_end(l), *to = east_end(l);
+        const uint16_t line[8] = { 1, 1, from[0], from[1], to[0], to[1], 0, 0 };
+
+        if (l[LIVE] == 1 && from[0] <= point[0] && point[0] < to[0] && upper_label(l) == *found
+            && turn(line, point[0], point[1]) > 0 && narrow_turn(line, point, ALL_BUT_GREATEST) < 0)
+            *found = 0;
+    }
+}
+
 /* A label is given only where the point's own leaf lists some line. */
 static void look_in_own_leaf(struct tables t, const uint16_t *point, uint32_t *found)
 {
@@ -642,6 +711,11 @@ static uint64_t highest_slot_on_line(struct tables t, struct lists s)
 static uint64_t own_leaf_only(struct tables t, struct lists s)
 {
     return locate_with(t, s, look_in_own_leaf);
+}
+
+static uint64_t narrow_turns_locate(struct tables t, struct lists s)
+{
+    return locate_with(t, s, narrow_turns_miss_line);
 }
 
 static uint64_t off_grid_answers_0(struct tables t, struct lists s)
@@ -768,11 +842,6 @@ static uint64_t east_side_left_off(struct tables t, struct window w)
     return window_without(t, w, is_east_of_inside);
 }
 
-static long long turn(const uint16_t *l, long long x, long long y)
-{
-    return ((long long)l[X2] - l[X1]) * (y - l[Y1]) - ((long long)l[Y2] - l[Y1]) * (x - l[X1]);
-}
-
 /* Three corners on one side of the line's straight line, and the fourth on it. */
 static int has_one_corner(const uint16_t *l, const struct window *w)
 {
@@ -843,6 +912,24 @@ static int meets_half_a_step_off(const uint16_t *l, const struct window *w)
 static uint64_t half_a_step_off(struct tables t, struct window w)
 {
     return window_with(t, w, meets_half_a_step_off);
+}
+
+static int meets_by_narrow_turns(const uint16_t *l, const struct window *w)
+{
+    const uint16_t corners[4][2] = { { w->west, w->south }, { w->east, w->south }, { w->west, w->north },
+                                     { w->east, w->north } };
+    int left = 0, right = 0, i;
+
+    for (i = 0; i < 4; i++) {
+        left += narrow_turn(l, corners[i], ALL_BUT_GREATEST) > 0;
+        right += narrow_turn(l, corners[i], ALL_BUT_GREATEST) < 0;
+    }
+    return box_meets(l, w) && left < 4 && right < 4;
+}
+
+static uint64_t narrow_turns_in_window(struct tables t, struct window w)
+{
+    return window_with(t, w, meets_by_narrow_turns);
 }
 
 static uint64_t one_step_too_far_north(struct tables t, struct window w)
@@ -1027,6 +1114,8 @@ static const struct planted plants[] = {
     { "a word written behind the node table", ON_INSERT(writes_past_nodes) },
     { "7 with one listing left", ON_INSERT(keeps_one_listing_back) },
     { "a line from the middle of another is taken", ON_INSERT(touching_is_no_conflict) },
+    { "a crossing not seen where a turn passes 2^29", ON_INSERT(narrow_turns_miss_crossing) },
+    { "a crossing told as touching where a turn is the greatest", ON_INSERT(narrow_turns_tell_kind) },
     { "delete leaves the right label", ON_DELETE(leaves_right_label) },
     { "delete leaves the old tree", ON_DELETE(leaves_old_tree) },
     { "the last generation wraps at delete", ON_DELETE(last_generation_wraps) },
@@ -1039,6 +1128,7 @@ static const struct planted plants[] = {
     { "the flatter of two lines from one west end", ON_LOCATE(flatter_line_taken) },
     { "not the lowest slot where lines share an end", ON_LOCATE(highest_slot_on_line) },
     { "labels looked for in the point's own leaf only", ON_LOCATE(own_leaf_only) },
+    { "a line below not seen where its turn is the greatest", ON_LOCATE(narrow_turns_locate) },
     { "0 for a point off the grid", ON_LOCATE(off_grid_answers_0) },
     { "an answer written on refusal", ON_LOCATE(answers_when_refused) },
     { "garbage behind the last listing not seen", ON_LOCATE(rest_of_listings_unread) },
@@ -1053,6 +1143,7 @@ static const struct planted plants[] = {
     { "a line told whose box alone meets the window", ON_WINDOW(boxes_alone) },
     { "the window one step too far north", ON_WINDOW(one_step_too_far_north) },
     { "the window half a step too far south-west", ON_WINDOW(half_a_step_off) },
+    { "a window's corner on the other side where its turn is the greatest", ON_WINDOW(narrow_turns_in_window) },
     { "a list that is short filled all the same", ON_WINDOW(written_as_far_as_it_goes) },
     { "the entry after the last slot cleared", ON_WINDOW(entry_after_last_cleared) },
     { "an inverted window turned round", ON_WINDOW(inverted_turned_round) },
