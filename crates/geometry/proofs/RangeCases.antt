@@ -3,12 +3,13 @@
 use mathlib.Core.Path.{_≡_, refl}
 use mathlib.Core.Bool.{Bool, true, false}
 use mathlib.Core.List.{[], _∷_}
-use Prim.Native.Nat.{ℕ, _*_, _^_}
-use lib.Dec.{ltb}
+use Prim.Native.Nat.{ℕ, _*_, _^_, _≤_}
+use lib.Dec.{ltb, lit≤}
 use lib.IntN.{ℤ, pos, negsuc}
 use Rattle.definitions.specs.declared.Kind.{Kind}
 use Rattle.definitions.specs.declared.Kind.the-variants.{Crossing, Touching, Overlap, Same}
 use Rattle.definitions.specs.Shape.{Line, Block, gridPoint, halfPoint, turn, leftOf, rightOf, corners, meetsArea, meets, samePoint, isEnd, on, within, parts, conflict, inLineOf, kindOf}
+use Rattle.geometry.specs.Range.{End, EndOrCorner, grid-end}
 
 abbrev turned : ℕ → ℕ → ℕ → ℕ → ℕ → ℕ → ℤ
 turned ax ay bx by cx cy = turn (halfPoint ax ay) (halfPoint bx by) (halfPoint cx cy)
@@ -26,11 +27,16 @@ against l = (conflict rising l, kindOf rising l)
 abbrev smallest : ℕ → ℕ → Block
 smallest west south = record { west = west; south = south; side = 2 }
 
+corner : {x y : ℕ} → x ≤ 32768 → y ≤ 32768 → EndOrCorner (halfPoint x y)
+corner h k = record { toEast = h; toNorth = k }
+
 pub record RangeCases : Type 0 where
   -- the bound, and that 31 bits and a sign hold it
   pub bound : 2 * 32767 * 32766 ≡ 2147287044
   pub fits : ltb 2147287044 (2 ^ 31) ≡ true
-  -- two ends and a corner, far apart: half of the bound, by either sign; and 0 at both corners in the line
+  -- what a turn asks for takes in every grid point and every corner
+  pub asked : End (gridPoint 0 0) × End (gridPoint 16383 16383) × EndOrCorner (halfPoint 0 0) × EndOrCorner (halfPoint 32768 32768)
+  -- two ends and a corner, far apart: about half of the bound, by either sign; and 0 at both corners in the line
   pub greatest : turned 1 1 32767 32767 0 32768 ∷ turned 32767 32767 1 1 0 32768 ∷ turned 1 32767 32767 1 0 0 ∷ turned 1 1 32767 1 0 32768 ∷ turned 1 1 32767 32767 32768 32768 ∷ turned 1 1 32767 32767 0 0 ∷ [] ≡ pos 1073676288 ∷ negsuc 1073676287 ∷ negsuc 1073676287 ∷ pos 1073643522 ∷ pos 0 ∷ pos 0 ∷ []
   -- three ends, far apart
   pub ends : turned 1 1 32767 1 32767 32767 ∷ turned 32767 32767 32767 1 1 1 ∷ [] ≡ pos 1073610756 ∷ negsuc 1073610755 ∷ []
@@ -46,4 +52,4 @@ pub record RangeCases : Type 0 where
 
 range-cases : RangeCases
 unfolding turn leftOf rightOf corners meetsArea meets samePoint isEnd on within parts conflict inLineOf kindOf
-range-cases = record { bound = refl; fits = refl; greatest = refl; ends = refl; least = refl; beside = refl; kinds = refl; blocks = refl }
+range-cases = record { bound = refl; fits = refl; asked = (grid-end (lit≤ tt) (lit≤ tt), grid-end (lit≤ tt) (lit≤ tt), corner (lit≤ tt) (lit≤ tt), corner (lit≤ tt) (lit≤ tt)); greatest = refl; ends = refl; least = refl; beside = refl; kinds = refl; blocks = refl }
