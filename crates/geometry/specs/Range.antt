@@ -39,6 +39,7 @@ end-corner e = record { toEast = omega (arith, e); toNorth = omega (arith, e) }
 pub grid-ends : {l : Line} {x1 y1 x2 y2 : ℕ} → (l .a ≡ gridPoint x1 y1) × (l .b ≡ gridPoint x2 y2) → (x1 ≤ 16383) × (y1 ≤ 16383) × (x2 ≤ 16383) × (y2 ≤ 16383) → LineEnds l
 grid-ends e g = record { first = rw (e .0) (grid-end (g .0) (g .1)); second = rw (e .1) (grid-end (g .2) (g .3)) }
 
+-- either of two ends
 pub choose : (t : Bool) {p q : Point} → End p → End q → End (if t then p else q)
 choose true e f = e
 choose false e f = f
