@@ -52,4 +52,4 @@ pub record RangeCases : Type 0 where
 
 range-cases : RangeCases
 unfolding turn leftOf rightOf corners meetsArea meets samePoint isEnd on within parts conflict inLineOf kindOf
-range-cases = record { bound = refl; fits = refl; asked = (grid-end (lit≤ tt) (lit≤ tt), grid-end (lit≤ tt) (lit≤ tt), corner (lit≤ tt) (lit≤ tt), corner (lit≤ tt) (lit≤ tt)); greatest = refl; ends = refl; least = refl; beside = refl; kinds = refl; blocks = refl }
+range-cases = record { bound = refl; fits = refl; asked = (grid-end {x = 0} {y = 0} (lit≤ tt) (lit≤ tt), grid-end {x = 16383} {y = 16383} (lit≤ tt) (lit≤ tt), corner (lit≤ tt) (lit≤ tt), corner (lit≤ tt) (lit≤ tt)); greatest = refl; ends = refl; least = refl; beside = refl; kinds = refl; blocks = refl }
