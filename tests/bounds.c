@@ -274,15 +274,6 @@ void part_bounds(void)
 
 /* Report */
 
-static int none_of(const uint64_t *counts, size_t many)
-{
-    int none = 0;
-
-    while (many-- > 0)
-        none += counts[many] == 0;
-    return none;
-}
-
 int report_bounds(void)
 {
     static const char *const names[THIRDS] = { "ends of a line given", "points", "corners of a window" };

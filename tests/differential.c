@@ -77,16 +77,22 @@ static void report(void)
            (unsigned long long)met.calls);
 }
 
+int none_of(const uint64_t *counts, size_t many)
+{
+    int none = 0;
+
+    while (many-- > 0)
+        none += counts[many] == 0;
+    return none;
+}
+
 /* A refusal, a kind, a way to touch a window or a turn at the range's ends that never came back was not tested: then the
  * run has failed, though nothing differed. */
 static int never_seen(void)
 {
-    int i, none = report_kinds() + report_windows() + report_bounds();
+    int none = report_kinds() + report_windows() + report_bounds() + none_of(met.refusals, REFUSALS)
+        + none_of(met.kinds + 1, KINDS - 1);
 
-    for (i = 0; i < REFUSALS; i++)
-        none += met.refusals[i] == 0;
-    for (i = 1; i < KINDS; i++)
-        none += met.kinds[i] == 0;
     if (none > 0)
         printf("differential: %d of the counts above are 0, and none may be\n", none);
     return none > 0;

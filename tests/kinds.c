@@ -234,15 +234,6 @@ void part_several(void)
 
 /* What was seen */
 
-static int none_of(const uint64_t *counts, size_t many)
-{
-    int none = 0;
-
-    while (many-- > 0)
-        none += counts[many] == 0;
-    return none;
-}
-
 int report_kinds(void)
 {
     printf("differential: pairs of lines, each put 8 ways: apart %llu, crossing %llu, touching %llu, overlap %llu, "

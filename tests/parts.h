@@ -67,6 +67,8 @@ void put_off_grid(struct stroke *s);
 uint64_t insert_stroke(const struct stroke *s);
 /* Whether the point is on the stroke, its ends with it. */
 int lies_on(uint16_t x, uint16_t y, const struct stroke *s);
+/* How many of the counts are 0. */
+int none_of(const uint64_t *counts, size_t many);
 /* Finds a live slot by trying a few; where its entries begin, or -1. */
 long some_line(void);
 /* The line whose entries begin there. */

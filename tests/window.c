@@ -407,15 +407,6 @@ void part_windows(void)
 
 /* Report */
 
-static int none_of(const uint64_t *counts, size_t many)
-{
-    int none = 0;
-
-    while (many-- > 0)
-        none += counts[many] == 0;
-    return none;
-}
-
 int report_windows(void)
 {
     const uint64_t *a = seen.answers, *c = seen.corners, *s = seen.sides;

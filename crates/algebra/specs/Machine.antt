@@ -13,10 +13,6 @@ pub record Holds (w : Width) (v : ℕ) (z : ℤ) (b : ℕ) : Type 0 where
   pub value : toZ w v ≡ z
   pub within : natAbs z ≤ b
 
--- a parameter or a call's result, whose range the record has
-pub holds : {w : Width} {z : ℤ} {b : ℕ} → SFits w z → natAbs z ≤ b → Holds w (ofZ w z) z b
-holds f h = record { value = toZ-ofZ _ _ f; within = h }
-
 -- an unsigned number that was cast
 pub holds-cast : {w : Width} {n b : ℕ} → n ≤ b → b < 2 ^ hbits w → Holds w n (pos n) b
 holds-cast {w} {n} h k = record { value = toZ-pos w n (lt-of-le-of-lt h k); within = h }
