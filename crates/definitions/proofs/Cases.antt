@@ -10,7 +10,7 @@ use Rattle.definitions.specs.Shape.{turn, leftOf, rightOf, corners, meet
 use Rattle.definitions.specs.Tree.{baseRule, treeBy, endsOf, simpleWith, simple, listed, tree, nodesOf, listingsOf}
 use Rattle.definitions.specs.Tables.{Tables, lengthsFit, slotsOf, isLive, lineAt, liveSlots, liveLines, liveSound, emptySound, slotSound, noneConflict, nodeTable, listingTable, sound}
 use Rattle.definitions.specs.Calls.{reply, rebuilt, withSlot, cleared, startOf, givenLine, allOnGrid, noLength, conflicting, conflictDetail, freeSlots, placed, roomFor, insertOf, known, freed, deleteOf}
-use Rattle.definitions.specs.Lookup.{below, run, heightOver, rise, higher, highest, upperLabel, answerAt, answerTo, answersTo, locateOf, leafAt, leafOver, showOf}
+use Rattle.definitions.specs.Lookup.{below, above, run, heightOver, rise, higher, lower, foremost, upperLabel, lowerLabel, answering, answerOf, answerAt, answerTo, answersTo, locateOf, leafAt, leafOver, showOf}
 use Rattle.definitions.specs.History.{Call, insert, delete, replyTo, afterAll, numbers}
 
 abbrev pub zeros : ℕ → List ℕ
@@ -50,15 +50,15 @@ pub record PaperCases : Type 0 where
   pub P7 : (numbers baseRule (large 4) (line 0 0 10 0 ∷ line 10 0 10 5 ∷ []) ≡ 1 ∷ 65537 ∷ []) × (numbers baseRule (large 4) (line 0 0 10 0 ∷ line 10 0 20 0 ∷ []) ≡ 1 ∷ 65537 ∷ [])
   pub P8 : numbers baseRule (large 1) (line 0 0 10 0 ∷ delete 1 ∷ line 0 0 10 0 ∷ delete 1 ∷ []) ≡ 1 ∷ 0 ∷ 2 ∷ refusal 8 0 ∷ []
   pub P9 : (sound baseRule worn ≡ true) × (numbers baseRule worn (delete 65535 ∷ line 0 0 10 0 ∷ []) ≡ 0 ∷ refusal 6 0 ∷ [])
-  pub P10 : locateOf baseRule (afterAll baseRule (large 4) (labelled 0 8000 16383 8000 7 9 ∷ [])) (5 ∷ 9000 ∷ 5 ∷ 8000 ∷ 5 ∷ 7999 ∷ 16384 ∷ 0 ∷ 16383 ∷ 9000 ∷ []) (zeros 5) ≡ record { answer = Done 0; answers = 7 ∷ 65536 ∷ 0 ∷ 4294967295 ∷ 0 ∷ [] }
+  pub P10 : locateOf baseRule (afterAll baseRule (large 4) (labelled 0 8000 16383 8000 7 9 ∷ [])) (5 ∷ 9000 ∷ 5 ∷ 8000 ∷ 5 ∷ 7999 ∷ 16384 ∷ 0 ∷ 16383 ∷ 9000 ∷ []) (zeros 5) ≡ record { answer = Done 0; answers = 7 ∷ 65536 ∷ 9 ∷ 4294967295 ∷ 0 ∷ [] }
   pub P11 : locateOf baseRule (afterAll baseRule (large 4) (labelled 0 0 10 0 1 0 ∷ labelled 0 0 10 10 2 0 ∷ [])) (0 ∷ 5 ∷ []) (zeros 1) ≡ record { answer = Done 0; answers = 2 ∷ [] }
 
 pub paperCases : PaperCases
-unfolding those every upFrom sameList turn leftOf rightOf corners meetsArea meets inside samePoint isEnd on within parts conflict inLineOf kindOf endsOf simpleWith simple listed tree nodesOf listingsOf padded lengthsFit slotsOf isLive lineAt liveSlots liveLines liveSound emptySound slotSound noneConflict nodeTable listingTable sound rebuilt withSlot cleared startOf givenLine allOnGrid noLength conflicting conflictDetail freeSlots placed roomFor insertOf known freed deleteOf below run heightOver rise higher highest upperLabel answerAt answerTo answersTo locateOf leafAt leafOver showOf replyTo afterAll numbers baseRule treeBy
+unfolding those every upFrom sameList turn leftOf rightOf corners meetsArea meets inside samePoint isEnd on within parts conflict inLineOf kindOf endsOf simpleWith simple listed tree nodesOf listingsOf padded lengthsFit slotsOf isLive lineAt liveSlots liveLines liveSound emptySound slotSound noneConflict nodeTable listingTable sound rebuilt withSlot cleared startOf givenLine allOnGrid noLength conflicting conflictDetail freeSlots placed roomFor insertOf known freed deleteOf below above run heightOver rise higher lower foremost upperLabel lowerLabel answering answerOf answerAt answerTo answersTo locateOf leafAt leafOver showOf replyTo afterAll numbers baseRule treeBy
 paperCases =
     record { P1 = (refl, refl); P2 = refl; P3 = refl; P4 = refl; P5 = (refl, refl); P6 = refl; P7 = (refl, refl); P8 = refl; P9 = (refl, refl); P10 = refl; P11 = refl }
 
 -- "Run only"
 pub runOnly : showOf baseRule (afterAll baseRule (large 4) (line 0 0 8 8 ∷ line 0 0 8 7 ∷ line 4 7 5 7 ∷ delete 131073 ∷ [])) 0 0 ≡ record { told = record { answer = Done 0; side = 16; west = record { 0 = 0 }; south = record { 0 = 0 } }; first = 2; part = 0 ∷ 1 ∷ [] }
-unfolding those every upFrom sameList turn leftOf rightOf corners meetsArea meets inside samePoint isEnd on within parts conflict inLineOf kindOf endsOf simpleWith simple listed tree nodesOf listingsOf padded lengthsFit slotsOf isLive lineAt liveSlots liveLines liveSound emptySound slotSound noneConflict nodeTable listingTable sound rebuilt withSlot cleared startOf givenLine allOnGrid noLength conflicting conflictDetail freeSlots placed roomFor insertOf known freed deleteOf below run heightOver rise higher highest upperLabel answerAt answerTo answersTo locateOf leafAt leafOver showOf replyTo afterAll numbers baseRule treeBy
+unfolding those every upFrom sameList turn leftOf rightOf corners meetsArea meets inside samePoint isEnd on within parts conflict inLineOf kindOf endsOf simpleWith simple listed tree nodesOf listingsOf padded lengthsFit slotsOf isLive lineAt liveSlots liveLines liveSound emptySound slotSound noneConflict nodeTable listingTable sound rebuilt withSlot cleared startOf givenLine allOnGrid noLength conflicting conflictDetail freeSlots placed roomFor insertOf known freed deleteOf below above run heightOver rise higher lower foremost upperLabel lowerLabel answering answerOf answerAt answerTo answersTo locateOf leafAt leafOver showOf replyTo afterAll numbers baseRule treeBy
 runOnly = refl

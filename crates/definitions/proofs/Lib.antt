@@ -1,3 +1,4 @@
 pub mod Cases
 pub mod OwnCases
 pub mod WindowCases
+pub mod AboveCases

@@ -9,7 +9,7 @@ use Rattle.definitions.specs.Shape.{turn, leftOf, rightOf, corners, meet
 use Rattle.definitions.specs.Tree.{baseRule, treeBy, endsOf, simpleWith, simple, listed, tree, nodesOf, listingsOf}
 use Rattle.definitions.specs.Tables.{Tables, lengthsFit, slotsOf, isLive, lineAt, liveSlots, liveLines, liveSound, emptySound, slotSound, noneConflict, nodeTable, listingTable, sound}
 use Rattle.definitions.specs.Calls.{numberOf, kindNumber, reply, rebuilt, withSlot, cleared, startOf, givenLine, allOnGrid, noLength, conflicting, conflictDetail, freeSlots, placed, roomFor, insertOf, known, freed, deleteOf}
-use Rattle.definitions.specs.Lookup.{Showing, below, run, heightOver, rise, higher, highest, upperLabel, answerAt, answerTo, answersTo, locateOf, leafAt, leafOver, showOf}
+use Rattle.definitions.specs.Lookup.{Showing, below, above, run, heightOver, rise, higher, lower, foremost, upperLabel, lowerLabel, answering, answerOf, answerAt, answerTo, answersTo, locateOf, leafAt, leafOver, showOf}
 use Rattle.definitions.specs.History.{delete, locate, show, replyTo, afterAll, numbers}
 use Rattle.definitions.proofs.Cases.{zeros, fresh, labelled, line, refusal}
 
@@ -92,6 +92,6 @@ pub record OwnCases : Type 0 where
   pub runOnly : showOf baseRule (afterAll baseRule (fresh 4 200 200) (line 0 0 8 8 ∷ line 0 0 8 7 ∷ line 4 7 5 7 ∷ delete 131073 ∷ [])) 0 0 ≡ shows 16 0 0 2 (0 ∷ 1 ∷ [])
 
 pub ownCases : OwnCases
-unfolding those every upFrom sameList turn leftOf rightOf corners meetsArea meets inside samePoint isEnd on within parts conflict inLineOf kindOf endsOf simpleWith simple listed tree nodesOf listingsOf padded lengthsFit slotsOf isLive lineAt liveSlots liveLines liveSound emptySound slotSound noneConflict nodeTable listingTable sound rebuilt withSlot cleared startOf givenLine allOnGrid noLength conflicting conflictDetail freeSlots placed roomFor insertOf known freed deleteOf below run heightOver rise higher highest upperLabel answerAt answerTo answersTo locateOf leafAt leafOver showOf replyTo afterAll numbers baseRule treeBy
+unfolding those every upFrom sameList turn leftOf rightOf corners meetsArea meets inside samePoint isEnd on within parts conflict inLineOf kindOf endsOf simpleWith simple listed tree nodesOf listingsOf padded lengthsFit slotsOf isLive lineAt liveSlots liveLines liveSound emptySound slotSound noneConflict nodeTable listingTable sound rebuilt withSlot cleared startOf givenLine allOnGrid noLength conflicting conflictDetail freeSlots placed roomFor insertOf known freed deleteOf below above run heightOver rise higher lower foremost upperLabel lowerLabel answering answerOf answerAt answerTo answersTo locateOf leafAt leafOver showOf replyTo afterAll numbers baseRule treeBy
 ownCases =
     record { start = refl; upright = refl; fanNodes = refl; fanListings = refl; leafNW = refl; leafNE = refl; leafSW = refl; leafSE = refl; leafEmpty = refl; between = refl; emptied = refl; seven = refl; refusals = refl; lengths = refl; startLengths = refl; lists = refl; damaged = refl; offGrid = refl; noLength = refl; conflicts = refl; kinds = refl; crossed = refl; touched = refl; overlapped = refl; sames = refl; noSlot = refl; noRoom = refl; unknown = refl; sevenCalls = refl; sevenLeft = refl; runOnly = refl }

@@ -5,9 +5,11 @@ use Prim.Native.Nat.{ℕ, _+_, _*_, _-_, _/_}
 use lib.ListN.{length, take, drop}
 use lib.Dec.{leb, ltb, eqb}
 use lib.IntN.{ℤ, pos, subℕ, _*ℤ_, _-ℤ_}
-use Rattle.algebra.specs.Words.{those, if_then_else_, isPositive}
+use Rattle.algebra.specs.Words.{those, if_then_else_, isPositive, isNegative}
 use Rattle.definitions.specs.declared.Answer.{Answer}
 use Rattle.definitions.specs.declared.Answer.the-variants.{Done, Lengths, Damaged, OffGrid}
+use Rattle.definitions.specs.declared.Answering.{Answering}
+use Rattle.definitions.specs.declared.Answering.the-variants.{Upon, FromBelow, FromAbove, NoLine}
 use Rattle.definitions.specs.declared.Point.{Point}
 use Rattle.definitions.specs.declared.Shown.{Shown}
 use Rattle.definitions.specs.Shape.{Line, Block, wholeMap, nwOf, neOf, swOf, seOf, gridPoint, turn, on}
@@ -27,6 +29,11 @@ unfoldable pub below : Point → Line → Bool
 below p l =
     leb (westEnd l .x .0) (p .x .0) && ltb (p .x .0) (eastEnd l .x .0) && isPositive (turn (westEnd l) (eastEnd l) p)
 
+-- it holds p's x, and there the line passes above p
+unfoldable pub above : Point → Line → Bool
+above p l =
+    leb (westEnd l .x .0) (p .x .0) && ltb (p .x .0) (eastEnd l .x .0) && isNegative (turn (westEnd l) (eastEnd l) p)
+
 -- over x the line's height is heightOver x l / run l, and it rises by rise l over run l
 unfoldable pub run : Line → ℕ
 run l = eastEnd l .x .0 - westEnd l .x .0
@@ -44,22 +51,48 @@ higher x l m =
     || eqb (heightOver x m * run l) (heightOver x l * run m)
     && isPositive (rise l *ℤ pos (run m) -ℤ rise m *ℤ pos (run l))
 
-unfoldable pub highest : ℕ → Line → List Line → Line
-highest x l [] = l
-highest x l (m ∷ ms) = highest x (if higher x m l then m else l) ms
+-- over x, l is lower than m, or as low and rises less steeply
+unfoldable pub lower : ℕ → Line → Line → Bool
+lower x l m = higher x m l
+
+-- of l and more lines, the one that goes before the others
+unfoldable pub foremost : (Line → Line → Bool) → Line → List Line → Line
+foremost before l [] = l
+foremost before l (m ∷ ms) = foremost before (if before m l then m else l) ms
 
 -- left if x1 < x2, else right
 unfoldable pub upperLabel : List ℕ → ℕ → ℕ
 upperLabel lines s = if ltb (x1 lines s) (x2 lines s) then leftLabel lines s else rightLabel lines s
 
--- on a live line, the lowest such slot; else the highest line below; else 0
-unfoldable pub answerAt : List ℕ → Point → ℕ
-answerAt lines p =
+-- right if x1 < x2, else left
+unfoldable pub lowerLabel : List ℕ → ℕ → ℕ
+lowerLabel lines s = if ltb (x1 lines s) (x2 lines s) then rightLabel lines s else leftLabel lines s
+
+-- on a live line, the lowest such slot; else the highest line below; else the lowest line above; else none
+unfoldable pub answering : List ℕ → Point → Answering
+answering lines p =
     elim (those (on p) (liveLines lines)) [
-      | l ∷ more ↦ 65536 + l .slot
+      | l ∷ more ↦ Upon (l .slot)
       | [] ↦
-          elim (those (below p) (liveLines lines)) [ [] ↦ 0 | l ∷ more ↦ upperLabel lines (highest (p .x .0) l more .slot) ]
+          elim (those (below p) (liveLines lines)) [
+            | l ∷ more ↦ FromBelow (foremost (higher (p .x .0)) l more .slot)
+            | [] ↦
+                elim (those (above p) (liveLines lines)) [
+                  | l ∷ more ↦ FromAbove (foremost (lower (p .x .0)) l more .slot)
+                  | [] ↦ NoLine
+                ]
+          ]
     ]
+
+-- a line below answers by its upper label, a line above by its lower label
+unfoldable pub answerOf : List ℕ → Answering → ℕ
+answerOf lines (Upon s) = 65536 + s
+answerOf lines (FromBelow s) = upperLabel lines s
+answerOf lines (FromAbove s) = lowerLabel lines s
+answerOf lines NoLine = 0
+
+unfoldable pub answerAt : List ℕ → Point → ℕ
+answerAt lines p = answerOf lines (answering lines p)
 
 unfoldable pub answerTo : List ℕ → ℕ → ℕ → ℕ
 answerTo lines x y = if onGrid x && onGrid y then answerAt lines (gridPoint x y) else 4294967295

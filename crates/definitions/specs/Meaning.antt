@@ -8,6 +8,8 @@ use lib.ListN.{length, getD}
 use native.Mathlib.Omega.{arith}
 use Rattle.algebra.specs.Words.{Rising}
 use Rattle.definitions.specs.declared.Point.{Point}
+use Rattle.definitions.specs.declared.Answering.{Answering}
+use Rattle.definitions.specs.declared.Answering.the-variants.{Upon, FromBelow, FromAbove, NoLine}
 use Rattle.definitions.specs.declared.Kind.{Kind}
 use Rattle.definitions.specs.declared.Kind.the-variants.{Crossing, Touching, Overlap, Same}
 use Rattle.definitions.specs.declared.Window.{Window}
@@ -237,6 +239,14 @@ pub record CountsBelow (p : Point) (l : Line) : Type 0 where
   pub there : PointOver (p .x .0) l spot
   pub under : spot .Y < p .y .0 * spot .Z
 
+-- the x range holds p's x by the same rule, and there the line passes above p
+pub record CountsAbove (p : Point) (l : Line) : Type 0 where
+  pub fromWest : minX l ≤ p .x .0
+  pub beforeEast : p .x .0 < maxX l
+  pub spot : Spot
+  pub there : PointOver (p .x .0) l spot
+  pub over : p .y .0 * spot .Z < spot .Y
+
 -- l rises more steeply, rise over run, than m: (ey - wy) / run l above (ey' - wy') / run m
 unfoldable pub Steeper : Line → Line → Type 0
 Steeper l m = westEnd l .y .0 * run m + eastEnd m .y .0 * run l < eastEnd l .y .0 * run m + westEnd m .y .0 * run l
@@ -245,28 +255,51 @@ Steeper l m = westEnd l .y .0 * run m + eastEnd m .y .0 * run l < eastEnd l .y .
 unfoldable pub NoneHigher : Line → Spot → Line → Spot → Type 0
 NoneHigher l s m t = (t .Y * s .Z < s .Y * t .Z) ⊎ ((t .Y * s .Z ≡ s .Y * t .Z) × (Steeper m l → ⊥))
 
+-- l, at s, is lower than m, at t; or as low, and m does not rise less steeply
+unfoldable pub NoneLower : Line → Spot → Line → Spot → Type 0
+NoneLower l s m t = (s .Y * t .Z < t .Y * s .Z) ⊎ ((s .Y * t .Z ≡ t .Y * s .Z) × (Steeper l m → ⊥))
+
 -- n is the label of the line's upper side: left if x1 < x2, else right
 pub record UpperLabel (lines : List ℕ) (s n : ℕ) : Type 0 where
   pub left : x1 lines s < x2 lines s → n ≡ leftLabel lines s
   pub right : x2 lines s ≤ x1 lines s → n ≡ rightLabel lines s
 
--- n answers to p
-pub data Answers (lines : List ℕ) (p : Point) (n : ℕ) : Type 0 where
+-- and of its lower side: right if x1 < x2, else left
+pub record LowerLabel (lines : List ℕ) (s n : ℕ) : Type 0 where
+  pub right : x1 lines s < x2 lines s → n ≡ rightLabel lines s
+  pub left : x2 lines s ≤ x1 lines s → n ≡ leftLabel lines s
+
+-- this answers to p
+pub data Answers (lines : List ℕ) (p : Point) : Answering → Type 0 where
   -- on a live line: the lowest such slot
   upon : (s : ℕ) → Live lines s → Through p (lineAt lines s)
       → ((u : ℕ) → Live lines u → Through p (lineAt lines u) → s ≤ u)
-      → n ≡ 65536 + s → Answers lines p n
+      → Answers lines p (Upon s)
   -- else the highest line below, at equal height the steeper rising one
   under : ((u : ℕ) → Live lines u → Through p (lineAt lines u) → ⊥)
       → (s : ℕ) → Live lines s → (b : CountsBelow p (lineAt lines s))
       → ((u : ℕ) → Live lines u → (c : CountsBelow p (lineAt lines u)) → NoneHigher (lineAt lines s) (b .spot) (lineAt lines u) (c .spot))
-      → UpperLabel lines s n → Answers lines p n
-  -- no such line
+      → Answers lines p (FromBelow s)
+  -- if no line counts below: the lowest line above, at equal height the less steeply rising one
+  over : ((u : ℕ) → Live lines u → Through p (lineAt lines u) → ⊥)
+      → ((u : ℕ) → Live lines u → CountsBelow p (lineAt lines u) → ⊥)
+      → (s : ℕ) → Live lines s → (b : CountsAbove p (lineAt lines s))
+      → ((u : ℕ) → Live lines u → (c : CountsAbove p (lineAt lines u)) → NoneLower (lineAt lines s) (b .spot) (lineAt lines u) (c .spot))
+      → Answers lines p (FromAbove s)
+  -- with neither
   outside : ((u : ℕ) → Live lines u → Through p (lineAt lines u) → ⊥)
       → ((u : ℕ) → Live lines u → CountsBelow p (lineAt lines u) → ⊥)
-      → n ≡ 0 → Answers lines p n
+      → ((u : ℕ) → Live lines u → CountsAbove p (lineAt lines u) → ⊥)
+      → Answers lines p NoLine
+
+-- and this is its number
+pub data Tells (lines : List ℕ) : Answering → ℕ → Type 0 where
+  slotOf : {s n : ℕ} → n ≡ 65536 + s → Tells lines (Upon s) n
+  upperOf : {s n : ℕ} → UpperLabel lines s n → Tells lines (FromBelow s) n
+  lowerOf : {s n : ℕ} → LowerLabel lines s n → Tells lines (FromAbove s) n
+  noneOf : {n : ℕ} → n ≡ 0 → Tells lines NoLine n
 
 -- n answers to the grid pair x, y
 pub data AnswersTo (lines : List ℕ) (x y n : ℕ) : Type 0 where
   offGrid : (16383 < x) ⊎ (16383 < y) → n ≡ 4294967295 → AnswersTo lines x y n
-  within : x ≤ 16383 → y ≤ 16383 → Answers lines (gridPoint x y) n → AnswersTo lines x y n
+  within : x ≤ 16383 → y ≤ 16383 → (a : Answering) → Answers lines (gridPoint x y) a → Tells lines a n → AnswersTo lines x y n

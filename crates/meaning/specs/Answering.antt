@@ -8,20 +8,23 @@ use native.Mathlib.Omega.{arith}
 use lib.ListN.{length}
 use lib.Dec.{eqb}
 use borrow.Author.Tests.{le-leb, lt-leb, lt-ltb, le-ltb, eqb-true, eqb-false, eq-eqb, not-true}
+use Rattle.definitions.specs.declared.Answering.{Answering}
+use Rattle.definitions.specs.declared.Answering.the-variants.{Upon, FromBelow, FromAbove, NoLine}
 use Rattle.definitions.specs.declared.Point.{Point}
 use Rattle.algebra.specs.Lists.{those-yes, those-no, in-those, of-those, every→, in-upFrom, to-upFrom}
 use Rattle.algebra.specs.Signs.{equal-of-zero}
 use Rattle.algebra.specs.Tests.{no-path, and-b, or-cases}
 use Rattle.algebra.specs.Words.{those, every, upFrom, if_then_else_}
-use Rattle.definitions.specs.Lookup.{below, run, higher, highest, upperLabel, answerAt, answerTo}
-use Rattle.definitions.specs.Meaning.{spotOf, CountsBelow, NoneHigher, Live, Through, UpperLabel, Answers, upon, under, outside, AnswersTo, offGrid, within}
+use Rattle.definitions.specs.Lookup.{below, above, run, higher, lower, foremost, upperLabel, lowerLabel, answering, answerOf, answerAt, answerTo}
+use Rattle.definitions.specs.Meaning.{spotOf, CountsBelow, CountsAbove, NoneHigher, NoneLower, Live, Through, UpperLabel, LowerLabel, Tells, slotOf, upperOf, lowerOf, noneOf, Answers, upon, under, over, outside, AnswersTo, offGrid, within}
 use Rattle.definitions.specs.Shape.{Line, gridPoint, conflict, on}
 use Rattle.definitions.specs.Tables.{x1, x2, isLive, slotsOf, lineAt, liveSlots, liveLines, onGrid, noneConflict}
 use Rattle.plane.specs.Compare.{order}
 use Rattle.plane.specs.Crossing.{spot-on, on→, on←}
-use Rattle.meaning.specs.Height.{counts-below, over-is, below→, none-higher→, none-higher←}
+use Rattle.meaning.specs.Height.{counts-below, counts-above, over-is, none-higher→, none-higher←}
 use Rattle.plane.specs.Meeting.{turnAt-is}
-use Rattle.meaning.specs.Rank.{Over, clear-of, Higher, higher→, higher←, asym, higher-trans, higher-total, run-some}
+use Rattle.meaning.specs.Ahead.{counts, counts-over, Ahead, ahead, ahead→, ahead←, ahead-trans, ahead-asym, ahead-total}
+use Rattle.meaning.specs.Rank.{Over, clear-of, run-some}
 
 -- live slots
 pub live→ : (lines : List ℕ) (s : ℕ) → List·Memᴰ s (liveSlots lines) → Live lines s
@@ -42,6 +45,23 @@ upper-means lines s n = (λ e. record { left = λ h. rw (lt-ltb (x1 lines s) (x2
     go : UpperLabel lines s n → (x2 lines s ≤ x1 lines s) ⊎ (x1 lines s < x2 lines s) → n ≡ upperLabel lines s
     go u (inl h) = rw (le-ltb (x1 lines s) (x2 lines s) h) (u .right h)
     go u (inr h) = rw (lt-ltb (x1 lines s) (x2 lines s) h) (u .left h)
+
+-- and of the lower
+pub lower-means : (lines : List ℕ) (s n : ℕ) → (n ≡ lowerLabel lines s) ↔ LowerLabel lines s n
+unfolding lowerLabel
+lower-means lines s n = (λ e. record { right = λ h. rw (lt-ltb (x1 lines s) (x2 lines s) h) at e; left = λ h. rw (le-ltb (x1 lines s) (x2 lines s) h) at e }, λ u. go u (order (x2 lines s) (x1 lines s)))
+  where
+    go : LowerLabel lines s n → (x2 lines s ≤ x1 lines s) ⊎ (x1 lines s < x2 lines s) → n ≡ lowerLabel lines s
+    go u (inl h) = rw (le-ltb (x1 lines s) (x2 lines s) h) (u .left h)
+    go u (inr h) = rw (lt-ltb (x1 lines s) (x2 lines s) h) (u .right h)
+
+-- the number by which it answers
+pub tells-iff : (lines : List ℕ) (a : Answering) (n : ℕ) → (n ≡ answerOf lines a) ↔ Tells lines a n
+unfolding answerOf
+tells-iff lines (Upon s) n = (λ e. slotOf e, elim [ slotOf e ↦ e ])
+tells-iff lines (FromBelow s) n = (λ e. upperOf (upper-means lines s n .0 e), elim [ upperOf u ↦ upper-means lines s n .1 u ])
+tells-iff lines (FromAbove s) n = (λ e. lowerOf (lower-means lines s n .0 e), elim [ lowerOf u ↦ lower-means lines s n .1 u ])
+tells-iff lines NoLine n = (λ e. noneOf e, elim [ noneOf e ↦ e ])
 
 -- through p
 pub through-is : (p : Point) (l : Line) → (on p l ≡ true) ↔ Through p l
@@ -130,63 +150,63 @@ first f q (x ∷ xs) l more (next h k) e = go (q (f x)) refl (λ j. first f q xs
     go true d r = record { slot = x; isIn = List·Memᴰ·head refl; itself = cc (sym e, those-yes q (f x) (map f xs) d); passes = d; lowest = low }
     go false d r = later (r (sym (those-no q (f x) (map f xs) d) ∙ e)) d
 
--- the highest of a list
-module _ (x : ℕ) where
-  irreflexive : (l : Line) → Higher x l l → ⊥
-  irreflexive l h = asym x l l h h
+-- the foremost of a list
+module _ (d : Bool) (x : ℕ) where
+  irreflexive : (l : Line) → Ahead d x l l → ⊥
+  irreflexive l h = ahead-asym d x l l h h
 
   abbrev Runs : List Line → Type 0
   Runs ms = (m : Line) → List·Memᴰ m ms → 0 < run m
 
-  keeps : (ms : List Line) (l k : Line) → Runs (l ∷ ms) → 0 < run k → (Higher x k l → ⊥) → Higher x k (highest x l ms) → ⊥
-  unfolding highest
+  keeps : (ms : List Line) (l k : Line) → Runs (l ∷ ms) → 0 < run k → (Ahead d x k l → ⊥) → Ahead d x k (foremost (ahead d x) l ms) → ⊥
+  unfolding foremost
   keeps [] l k r h f = f
-  keeps (m ∷ ms) l k r h f = go (higher x m l) refl (λ i j. keeps ms m k i h j) (λ i. keeps ms l k i h f)
+  keeps (m ∷ ms) l k r h f = go (ahead d x m l) refl (λ i j. keeps ms m k i h j) (λ i. keeps ms l k i h f)
     where
-      go : (t : Bool) → higher x m l ≡ t → (Runs (m ∷ ms) → (Higher x k m → ⊥) → Higher x k (highest x m ms) → ⊥)
-          → (Runs (l ∷ ms) → Higher x k (highest x l ms) → ⊥) → Higher x k (highest x (if t then m else l) ms) → ⊥
-      go true e a b = a (λ n i. r n (List·Memᴰ·tail i)) (λ i. f (higher-trans x k m l h (r m (List·Memᴰ·tail (List·Memᴰ·head refl))) (r l (List·Memᴰ·head refl)) i (higher→ x m l e)))
+      go : (t : Bool) → ahead d x m l ≡ t → (Runs (m ∷ ms) → (Ahead d x k m → ⊥) → Ahead d x k (foremost (ahead d x) m ms) → ⊥)
+          → (Runs (l ∷ ms) → Ahead d x k (foremost (ahead d x) l ms) → ⊥) → Ahead d x k (foremost (ahead d x) (if t then m else l) ms) → ⊥
+      go true e a b = a (λ n i. r n (List·Memᴰ·tail i)) (λ i. f (ahead-trans d x k m l h (r m (List·Memᴰ·tail (List·Memᴰ·head refl))) (r l (List·Memᴰ·head refl)) i (ahead→ d x m l e)))
       go false e a b = b without
         where
           without : (n : Line) → List·Memᴰ n (l ∷ ms) → 0 < run n
           without n (List·Memᴰ·head i) = r n (List·Memᴰ·head i)
           without n (List·Memᴰ·tail i) = r n (List·Memᴰ·tail (List·Memᴰ·tail i))
 
-  pub highest-best : (ms : List Line) (l k : Line) → Runs (l ∷ ms) → List·Memᴰ k (l ∷ ms) → Higher x k (highest x l ms) → ⊥
-  unfolding highest
-  highest-best [] l k r i = only i
+  pub foremost-best : (ms : List Line) (l k : Line) → Runs (l ∷ ms) → List·Memᴰ k (l ∷ ms) → Ahead d x k (foremost (ahead d x) l ms) → ⊥
+  unfolding foremost
+  foremost-best [] l k r i = only i
     where
-      only : List·Memᴰ k (l ∷ []) → Higher x k l → ⊥
-      only (List·Memᴰ·head e) h = irreflexive l (subst (λ (n : Line). Higher x n l) e h)
+      only : List·Memᴰ k (l ∷ []) → Ahead d x k l → ⊥
+      only (List·Memᴰ·head e) h = irreflexive l (subst (λ (n : Line). Ahead d x n l) e h)
       only (List·Memᴰ·tail j) h = List·Memᴰ·not-nil j
-  highest-best (m ∷ ms) l k r i = go (higher x m l) refl i (λ a b. highest-best ms m k a b) (λ a b. highest-best ms l k a b)
+  foremost-best (m ∷ ms) l k r i = go (ahead d x m l) refl i (λ a b. foremost-best ms m k a b) (λ a b. foremost-best ms l k a b)
     where
       without : (n : Line) → List·Memᴰ n (l ∷ ms) → 0 < run n
       without n (List·Memᴰ·head i) = r n (List·Memᴰ·head i)
       without n (List·Memᴰ·tail i) = r n (List·Memᴰ·tail (List·Memᴰ·tail i))
 
-      past : higher x m l ≡ false → (k ≡ m) → Higher x k l → ⊥
-      past e d h = no-path (sym e ∙ higher← x m l (subst (λ (n : Line). Higher x n l) d h))
+      past : ahead d x m l ≡ false → (k ≡ m) → Ahead d x k l → ⊥
+      past e q h = no-path (sym e ∙ ahead← d x m l (subst (λ (n : Line). Ahead d x n l) q h))
 
-      go : (t : Bool) → higher x m l ≡ t → List·Memᴰ k (l ∷ m ∷ ms) → (Runs (m ∷ ms) → List·Memᴰ k (m ∷ ms) → Higher x k (highest x m ms) → ⊥)
-          → (Runs (l ∷ ms) → List·Memᴰ k (l ∷ ms) → Higher x k (highest x l ms) → ⊥) → Higher x k (highest x (if t then m else l) ms) → ⊥
+      go : (t : Bool) → ahead d x m l ≡ t → List·Memᴰ k (l ∷ m ∷ ms) → (Runs (m ∷ ms) → List·Memᴰ k (m ∷ ms) → Ahead d x k (foremost (ahead d x) m ms) → ⊥)
+          → (Runs (l ∷ ms) → List·Memᴰ k (l ∷ ms) → Ahead d x k (foremost (ahead d x) l ms) → ⊥) → Ahead d x k (foremost (ahead d x) (if t then m else l) ms) → ⊥
       go true e (List·Memᴰ·tail j) a b = a (λ n i. r n (List·Memᴰ·tail i)) j
-      go true e (List·Memᴰ·head d) a b =
-          keeps ms m k (λ n i. r n (List·Memᴰ·tail i)) (r k (List·Memᴰ·head d)) (λ h. asym x m l (higher→ x m l e) (subst (λ (n : Line). Higher x n m) d h))
-      go false e (List·Memᴰ·head d) a b = b without (List·Memᴰ·head d)
-      go false e (List·Memᴰ·tail (List·Memᴰ·head d)) a b = keeps ms l k without (subst (λ (n : Line). 0 < run n) (sym d) (r m (List·Memᴰ·tail (List·Memᴰ·head refl)))) (past e d)
+      go true e (List·Memᴰ·head q) a b =
+          keeps ms m k (λ n i. r n (List·Memᴰ·tail i)) (r k (List·Memᴰ·head q)) (λ h. ahead-asym d x m l (ahead→ d x m l e) (subst (λ (n : Line). Ahead d x n m) q h))
+      go false e (List·Memᴰ·head q) a b = b without (List·Memᴰ·head q)
+      go false e (List·Memᴰ·tail (List·Memᴰ·head q)) a b = keeps ms l k without (subst (λ (n : Line). 0 < run n) (sym q) (r m (List·Memᴰ·tail (List·Memᴰ·head refl)))) (past e q)
       go false e (List·Memᴰ·tail (List·Memᴰ·tail j)) a b = b without (List·Memᴰ·tail j)
 
-  pub highest-in : (ms : List Line) (l : Line) → List·Memᴰ (highest x l ms) (l ∷ ms)
-  unfolding highest
-  highest-in [] l = List·Memᴰ·head refl
-  highest-in (m ∷ ms) l = go (higher x m l) (highest-in ms m) (highest-in ms l)
+  pub foremost-in : (ms : List Line) (l : Line) → List·Memᴰ (foremost (ahead d x) l ms) (l ∷ ms)
+  unfolding foremost
+  foremost-in [] l = List·Memᴰ·head refl
+  foremost-in (m ∷ ms) l = go (ahead d x m l) (foremost-in ms m) (foremost-in ms l)
     where
       skip : {k : Line} → List·Memᴰ k (l ∷ ms) → List·Memᴰ k (l ∷ m ∷ ms)
       skip (List·Memᴰ·head e) = List·Memᴰ·head e
       skip (List·Memᴰ·tail i) = List·Memᴰ·tail (List·Memᴰ·tail i)
 
-      go : (t : Bool) → List·Memᴰ (highest x m ms) (m ∷ ms) → List·Memᴰ (highest x l ms) (l ∷ ms) → List·Memᴰ (highest x (if t then m else l) ms) (l ∷ m ∷ ms)
+      go : (t : Bool) → List·Memᴰ (foremost (ahead d x) m ms) (m ∷ ms) → List·Memᴰ (foremost (ahead d x) l ms) (l ∷ ms) → List·Memᴰ (foremost (ahead d x) (if t then m else l) ms) (l ∷ m ∷ ms)
       go true a b = List·Memᴰ·tail a
       go false a b = skip b
 
@@ -199,71 +219,92 @@ module _ (lines : List ℕ) (p : Point) where
   unfolding liveLines
   mem-live s v = to-map (lineAt lines) (liveSlots lines) (live← lines s v)
 
-  -- the best line below p, by the computed order
-  pub record Best (s : ℕ) : Type 0 where
+  -- the line that goes before all others that count
+  pub record Foremost (d : Bool) (s : ℕ) : Type 0 where
     pub lives : Live lines s
-    pub under : below p (lineAt lines s) ≡ true
-    pub tops : (u : ℕ) → Live lines u → below p (lineAt lines u) ≡ true → Higher (p .x .0) (lineAt lines u) (lineAt lines s) → ⊥
+    pub passes : counts d p (lineAt lines s) ≡ true
+    pub tops : (u : ℕ) → Live lines u → counts d p (lineAt lines u) ≡ true → Ahead d (p .x .0) (lineAt lines u) (lineAt lines s) → ⊥
 
   pub none-through : those (on p) (liveLines lines) ≡ [] → (u : ℕ) → Live lines u → Through p (lineAt lines u) → ⊥
   none-through e u v t = List·Memᴰ·not-nil (rw e at (in-those (on p) (liveLines lines) (mem-live u v) (through-is p (lineAt lines u) .1 t)))
 
-  pub none-below : those (below p) (liveLines lines) ≡ [] → (u : ℕ) → Live lines u → below p (lineAt lines u) ≡ true → ⊥
-  none-below e u v t = List·Memᴰ·not-nil (rw e at (in-those (below p) (liveLines lines) (mem-live u v) t))
+  none-counts : (d : Bool) → those (counts d p) (liveLines lines) ≡ [] → (u : ℕ) → Live lines u → counts d p (lineAt lines u) ≡ true → ⊥
+  none-counts d e u v t = List·Memᴰ·not-nil (rw e at (in-those (counts d p) (liveLines lines) (mem-live u v) t))
 
-  pub best-of : (l : Line) (more : List Line) → those (below p) (liveLines lines) ≡ l ∷ more → (s : ℕ) × Best s × (highest (p .x .0) l more .slot ≡ s)
+  foremost-of : (d : Bool) (l : Line) (more : List Line) → those (counts d p) (liveLines lines) ≡ l ∷ more → (s : ℕ) × Foremost d s × (foremost (ahead d (p .x .0)) l more .slot ≡ s)
   unfolding lineAt
-  best-of l more e =
-      let h = live-mem (highest (p .x .0) l more) (inside .0) in (
+  foremost-of d l more e =
+      let h = live-mem (foremost (ahead d (p .x .0)) l more) (inside .0) in (
         h .0,
         record {
           lives = h .1;
-          under = subst (λ (k : Line). below p k ≡ true) (h .2) (inside .1);
-          tops = λ u v b. subst (λ (k : Line). Higher (p .x .0) (lineAt lines u) k → ⊥) (h .2) (highest-best (p .x .0) more l (lineAt lines u) runs (subst (λ (ms : List Line). List·Memᴰ (lineAt lines u) ms) e (in-those (below p) (liveLines lines) (mem-live u v) b)));
+          passes = subst (λ (k : Line). counts d p k ≡ true) (h .2) (inside .1);
+          tops = λ u v b. subst (λ (k : Line). Ahead d (p .x .0) (lineAt lines u) k → ⊥) (h .2) (foremost-best d (p .x .0) more l (lineAt lines u) runs (subst (λ (ms : List Line). List·Memᴰ (lineAt lines u) ms) e (in-those (counts d p) (liveLines lines) (mem-live u v) b)));
         },
         ap (λ (k : Line). k .slot) (h .2),
       )
     where
-      inside : List·Memᴰ (highest (p .x .0) l more) (liveLines lines) × (below p (highest (p .x .0) l more) ≡ true)
-      inside = of-those (below p) (liveLines lines) (subst (λ (ms : List Line). List·Memᴰ (highest (p .x .0) l more) ms) (sym e) (highest-in (p .x .0) more l))
+      inside : List·Memᴰ (foremost (ahead d (p .x .0)) l more) (liveLines lines) × (counts d p (foremost (ahead d (p .x .0)) l more) ≡ true)
+      inside = of-those (counts d p) (liveLines lines) (subst (λ (ms : List Line). List·Memᴰ (foremost (ahead d (p .x .0)) l more) ms) (sym e) (foremost-in d (p .x .0) more l))
 
       runs : (m : Line) → List·Memᴰ m (l ∷ more) → 0 < run m
-      runs m i = run-some (p .x .0) m (below→ p m (of-those (below p) (liveLines lines) (subst (λ (ms : List Line). List·Memᴰ m ms) (sym e) i) .1) .0)
+      runs m i = run-some (p .x .0) m (counts-over d p m (of-those (counts d p) (liveLines lines) (subst (λ (ms : List Line). List·Memᴰ m ms) (sym e) i) .1))
 
-  -- the best line is the paper's
-  pub best-answers : {n : ℕ} (s : ℕ) → ((u : ℕ) → Live lines u → Through p (lineAt lines u) → ⊥) → Best s → n ≡ upperLabel lines s → Answers lines p n
-  best-answers {n} s none b e =
-      under none s (b .lives) (c s (b .under))
-      (λ u v d. none-higher← (p .x .0) (lineAt lines s) (lineAt lines u) (c s (b .under) .spot) (d .spot) (o (c s (b .under))) (o d) (c s (b .under) .there) (d .there)
-      (b .tops u v (counts-below p (lineAt lines u) .1 d)))
-      (upper-means lines s n .0 e)
+  ob : {l : Line} → CountsBelow p l → Over (p .x .0) l
+  ob {l} d = over-is (p .x .0) l (d .fromWest) (d .beforeEast)
+
+  oa : {l : Line} → CountsAbove p l → Over (p .x .0) l
+  oa {l} d = over-is (p .x .0) l (d .fromWest) (d .beforeEast)
+
+  -- the foremost line is the paper's
+  pub foremost-below : (s : ℕ) → ((u : ℕ) → Live lines u → Through p (lineAt lines u) → ⊥) → Foremost true s → Answers lines p (FromBelow s)
+  unfolding counts Ahead
+  foremost-below s none b = under none s (b .lives) c
+      (λ u v e. none-higher← (p .x .0) (lineAt lines s) (lineAt lines u) (c .spot) (e .spot) (ob c) (ob e) (c .there) (e .there) (b .tops u v (counts-below p (lineAt lines u) .1 e)))
     where
-      c : (s : ℕ) → below p (lineAt lines s) ≡ true → CountsBelow p (lineAt lines s)
-      c s h = counts-below p (lineAt lines s) .0 h
+      c : CountsBelow p (lineAt lines s)
+      c = counts-below p (lineAt lines s) .0 (unfold counts in (b .passes))
 
-      o : {l : Line} → CountsBelow p l → Over (p .x .0) l
-      o {l} d = over-is (p .x .0) l (d .fromWest) (d .beforeEast)
+  pub foremost-above : (s : ℕ) → ((u : ℕ) → Live lines u → Through p (lineAt lines u) → ⊥) → ((u : ℕ) → Live lines u → CountsBelow p (lineAt lines u) → ⊥) → Foremost false s → Answers lines p (FromAbove s)
+  unfolding counts Ahead NoneLower NoneHigher
+  foremost-above s none no-below b = over none no-below s (b .lives) c
+      (λ u v e. none-higher← (p .x .0) (lineAt lines u) (lineAt lines s) (e .spot) (c .spot) (oa e) (oa c) (e .there) (c .there) (b .tops u v (counts-above p (lineAt lines u) .1 e)))
+    where
+      c : CountsAbove p (lineAt lines s)
+      c = counts-above p (lineAt lines s) .0 (unfold counts in (b .passes))
 
   -- the computed answer is an answer
-  pub answer-holds : Answers lines p (answerAt lines p)
-  unfolding answerAt liveLines lineAt
-  answer-holds = ons (those (on p) (liveLines lines)) refl
+  pub answering-holds : Answers lines p (answering lines p)
+  unfolding answering liveLines lineAt counts ahead lower
+  answering-holds = ons (those (on p) (liveLines lines)) refl
     where
+      aboves : (none : (u : ℕ) → Live lines u → Through p (lineAt lines u) → ⊥) → ((u : ℕ) → Live lines u → CountsBelow p (lineAt lines u) → ⊥) → (ms : List Line) → those (above p) (liveLines lines) ≡ ms
+          → Answers lines p (elim ms [ l ∷ more ↦ FromAbove (foremost (lower (p .x .0)) l more .slot) | [] ↦ NoLine ])
+      aboves none no-below [] e = outside none no-below (λ u v c. none-counts false e u v (counts-above p (lineAt lines u) .1 c))
+      aboves none no-below (l ∷ more) e = let b = foremost-of false l more e in subst (λ (s : ℕ). Answers lines p (FromAbove s)) (sym (b .2)) (foremost-above (b .0) none no-below (b .1))
+
       belows : (none : (u : ℕ) → Live lines u → Through p (lineAt lines u) → ⊥) (ms : List Line) → those (below p) (liveLines lines) ≡ ms
-          → Answers lines p (elim ms [ [] ↦ 0 | l ∷ more ↦ upperLabel lines (highest (p .x .0) l more .slot) ])
-      belows none [] e = outside none (λ u v c. none-below e u v (counts-below p (lineAt lines u) .1 c)) refl
-      belows none (l ∷ more) e = let b = best-of l more e in best-answers (b .0) none (b .1) (ap (upperLabel lines) (b .2))
+          → Answers lines p (elim ms [
+            | l ∷ more ↦ FromBelow (foremost (higher (p .x .0)) l more .slot)
+            | [] ↦ elim (those (above p) (liveLines lines)) [ l ∷ more ↦ FromAbove (foremost (lower (p .x .0)) l more .slot) | [] ↦ NoLine ]
+          ])
+      belows none [] e = aboves none (λ u v c. none-counts true e u v (counts-below p (lineAt lines u) .1 c)) (those (above p) (liveLines lines)) refl
+      belows none (l ∷ more) e = let b = foremost-of true l more e in subst (λ (s : ℕ). Answers lines p (FromBelow s)) (sym (b .2)) (foremost-below (b .0) none (b .1))
 
       ons : (ms : List Line) → those (on p) (liveLines lines) ≡ ms
           → Answers lines p (elim ms [
-            | l ∷ more ↦ 65536 + l .slot
-            | [] ↦ elim (those (below p) (liveLines lines)) [ [] ↦ 0 | l ∷ more ↦ upperLabel lines (highest (p .x .0) l more .slot) ]
+            | l ∷ more ↦ Upon (l .slot)
+            | [] ↦ elim (those (below p) (liveLines lines)) [
+              | l ∷ more ↦ FromBelow (foremost (higher (p .x .0)) l more .slot)
+              | [] ↦ elim (those (above p) (liveLines lines)) [ l ∷ more ↦ FromAbove (foremost (lower (p .x .0)) l more .slot) | [] ↦ NoLine ]
+            ]
           ])
       ons [] e = belows (none-through e) (those (below p) (liveLines lines)) refl
       ons (l ∷ more) e =
           let f = first (lineAt lines) (on p) (liveSlots lines) l more (up-live lines) e in
-          upon (f .slot) (live→ lines (f .slot) (f .isIn)) (through-is p (lineAt lines (f .slot)) .0 (f .passes))
-          (λ u v t. f .lowest u (live← lines u v) (through-is p (lineAt lines u) .1 t)) (ap (λ (k : Line). 65536 + k .slot) (f .itself))
+          subst (λ (k : Line). Answers lines p (Upon (k .slot))) (sym (f .itself))
+          (upon (f .slot) (live→ lines (f .slot) (f .isIn)) (through-is p (lineAt lines (f .slot)) .0 (f .passes))
+          (λ u v t. f .lowest u (live← lines u v) (through-is p (lineAt lines u) .1 t)))
 
 -- no two live lines conflict
 pub none-conflicts : (lines : List ℕ) → noneConflict lines ≡ true → (s u : ℕ) → Live lines s → Live lines u → (s ≡ u → ⊥) → conflict (lineAt lines s) (lineAt lines u) ≡ false
@@ -282,54 +323,70 @@ none-conflicts lines e s u v w d = go (or-cases (eqb s u) (not (conflict (lineAt
 
 module _ (lines : List ℕ) (p : Point) (sound : noneConflict lines ≡ true) where
   -- over p's x, the order of live lines is strict and total
-  pub live-total : (s u : ℕ) → Live lines s → Live lines u → Over (p .x .0) (lineAt lines s) → Over (p .x .0) (lineAt lines u)
-      → (s ≡ u) ⊎ (Higher (p .x .0) (lineAt lines s) (lineAt lines u) ⊎ Higher (p .x .0) (lineAt lines u) (lineAt lines s))
-  live-total s u v w o q = go (eqb s u) refl
+  pub live-total : (d : Bool) (s u : ℕ) → Live lines s → Live lines u → Over (p .x .0) (lineAt lines s) → Over (p .x .0) (lineAt lines u)
+      → (s ≡ u) ⊎ (Ahead d (p .x .0) (lineAt lines s) (lineAt lines u) ⊎ Ahead d (p .x .0) (lineAt lines u) (lineAt lines s))
+  live-total d s u v w o q = go (eqb s u) refl
     where
-      go : (t : Bool) → eqb s u ≡ t → (s ≡ u) ⊎ (Higher (p .x .0) (lineAt lines s) (lineAt lines u) ⊎ Higher (p .x .0) (lineAt lines u) (lineAt lines s))
+      go : (t : Bool) → eqb s u ≡ t → (s ≡ u) ⊎ (Ahead d (p .x .0) (lineAt lines s) (lineAt lines u) ⊎ Ahead d (p .x .0) (lineAt lines u) (lineAt lines s))
       go true e = inl (eqb-true _ _ e)
-      go false e = inr (higher-total (p .x .0) (lineAt lines s) (lineAt lines u) o q (clear-of (p .x .0) _ _ o q (none-conflicts lines sound s u v w (eqb-false _ _ e))))
+      go false e = inr (ahead-total d (p .x .0) (lineAt lines s) (lineAt lines u) o q (clear-of (p .x .0) _ _ o q (none-conflicts lines sound s u v w (eqb-false _ _ e))))
 
-  -- one best line, at most
-  pub best-one : (s u : ℕ) → Best lines p s → Best lines p u → s ≡ u
-  best-one s u b c = go (live-total s u (b .lives) (c .lives) (below→ p (lineAt lines s) (b .under) .0) (below→ p (lineAt lines u) (c .under) .0))
+  -- one foremost line, at most
+  pub foremost-one : (d : Bool) (s u : ℕ) → Foremost lines p d s → Foremost lines p d u → s ≡ u
+  foremost-one d s u b c = go (live-total d s u (b .lives) (c .lives) (counts-over d p (lineAt lines s) (b .passes)) (counts-over d p (lineAt lines u) (c .passes)))
     where
-      go : (s ≡ u) ⊎ (Higher (p .x .0) (lineAt lines s) (lineAt lines u) ⊎ Higher (p .x .0) (lineAt lines u) (lineAt lines s)) → s ≡ u
+      go : (s ≡ u) ⊎ (Ahead d (p .x .0) (lineAt lines s) (lineAt lines u) ⊎ Ahead d (p .x .0) (lineAt lines u) (lineAt lines s)) → s ≡ u
       go (inl e) = e
-      go (inr (inl h)) = absurd (c .tops s (b .lives) (b .under) h)
-      go (inr (inr h)) = absurd (b .tops u (c .lives) (c .under) h)
+      go (inr (inl h)) = absurd (c .tops s (b .lives) (b .passes) h)
+      go (inr (inr h)) = absurd (b .tops u (c .lives) (c .passes) h)
 
-  to-best : (s : ℕ) → Live lines s → (b : CountsBelow p (lineAt lines s))
-      → ((u : ℕ) → Live lines u → (c : CountsBelow p (lineAt lines u)) → NoneHigher (lineAt lines s) (b .spot) (lineAt lines u) (c .spot)) → Best lines p s
-  to-best s v b f =
+  to-below : (s : ℕ) → Live lines s → (b : CountsBelow p (lineAt lines s))
+      → ((u : ℕ) → Live lines u → (c : CountsBelow p (lineAt lines u)) → NoneHigher (lineAt lines s) (b .spot) (lineAt lines u) (c .spot)) → Foremost lines p true s
+  unfolding counts Ahead
+  to-below s v b f =
       record {
         lives = v;
-        under = counts-below p (lineAt lines s) .1 b;
-        tops = λ u w h. let d = counts-below p (lineAt lines u) .0 h in
-            none-higher→ (p .x .0) (lineAt lines s) (lineAt lines u) (b .spot) (d .spot) (o b) (o d) (b .there) (d .there) (f u w d);
+        passes = counts-below p (lineAt lines s) .1 b;
+        tops = λ u w h. let e = counts-below p (lineAt lines u) .0 h in
+            none-higher→ (p .x .0) (lineAt lines s) (lineAt lines u) (b .spot) (e .spot) (ob lines p b) (ob lines p e) (b .there) (e .there) (f u w e);
       }
-    where
-      o : {l : Line} → CountsBelow p l → Over (p .x .0) l
-      o {l} d = over-is (p .x .0) l (d .fromWest) (d .beforeEast)
 
-  -- two answers are equal
-  pub answer-one : (n k : ℕ) → Answers lines p n → Answers lines p k → n ≡ k
-  answer-one n k (upon s v t low e) (upon u w t′ low′ e′) = let h : s ≤ u = low u w t′ in let i : u ≤ s = low′ s v t in omega arith
-  answer-one n k (upon s v t low e) (under f u w c g e′) = absurd (f s v t)
-  answer-one n k (upon s v t low e) (outside f g e′) = absurd (f s v t)
-  answer-one n k (under f u w c g e′) (upon s v t low e) = absurd (f s v t)
-  answer-one n k (under f s v b g e) (under f′ u w c g′ e′) = upper-means lines s n .1 e ∙ ap (upperLabel lines) (best-one s u (to-best s v b g) (to-best u w c g′)) ∙ sym (upper-means lines u k .1 e′)
-  answer-one n k (under f s v b g e) (outside f′ g′ e′) = absurd (g′ s v b)
-  answer-one n k (outside f g e′) (upon s v t low e) = absurd (f s v t)
-  answer-one n k (outside f′ g′ e′) (under f s v b g e) = absurd (g′ s v b)
-  answer-one n k (outside f g e) (outside f′ g′ e′) = e ∙ sym e′
+  to-above : (s : ℕ) → Live lines s → (b : CountsAbove p (lineAt lines s))
+      → ((u : ℕ) → Live lines u → (c : CountsAbove p (lineAt lines u)) → NoneLower (lineAt lines s) (b .spot) (lineAt lines u) (c .spot)) → Foremost lines p false s
+  unfolding counts Ahead NoneLower NoneHigher
+  to-above s v b f =
+      record {
+        lives = v;
+        passes = counts-above p (lineAt lines s) .1 b;
+        tops = λ u w h. let e = counts-above p (lineAt lines u) .0 h in
+            none-higher→ (p .x .0) (lineAt lines u) (lineAt lines s) (e .spot) (b .spot) (oa lines p e) (oa lines p b) (e .there) (b .there) (f u w e);
+      }
 
-  pub answer-iff : (n : ℕ) → (n ≡ answerAt lines p) ↔ Answers lines p n
-  answer-iff n = (λ e. subst (λ (k : ℕ). Answers lines p k) (sym e) (answer-holds lines p), λ a. answer-one n (answerAt lines p) a (answer-holds lines p))
+  -- two answers are one
+  pub answers-one : (a b : Answering) → Answers lines p a → Answers lines p b → a ≡ b
+  answers-one a b (upon s v t low) (upon u w t′ low′) = let h : s ≤ u = low u w t′ in let i : u ≤ s = low′ s v t in ap Upon (omega arith)
+  answers-one a b (upon s v t low) (under f u w c g) = absurd (f s v t)
+  answers-one a b (upon s v t low) (over f g u w c h) = absurd (f s v t)
+  answers-one a b (upon s v t low) (outside f g h) = absurd (f s v t)
+  answers-one a b (under f u w c g) (upon s v t low) = absurd (f s v t)
+  answers-one a b (under f s v c g) (under f′ u w e g′) = ap FromBelow (foremost-one true s u (to-below s v c g) (to-below u w e g′))
+  answers-one a b (under f s v c g) (over f′ g′ u w e h) = absurd (g′ s v c)
+  answers-one a b (under f s v c g) (outside f′ g′ h) = absurd (g′ s v c)
+  answers-one a b (over f g u w c h) (upon s v t low) = absurd (f s v t)
+  answers-one a b (over f′ g′ u w e h) (under f s v c g) = absurd (g′ s v c)
+  answers-one a b (over f g s v c h) (over f′ g′ u w e h′) = ap FromAbove (foremost-one false s u (to-above s v c h) (to-above u w e h′))
+  answers-one a b (over f g s v c h) (outside f′ g′ h′) = absurd (h′ s v c)
+  answers-one a b (outside f g h) (upon s v t low) = absurd (f s v t)
+  answers-one a b (outside f′ g′ h) (under f s v c g) = absurd (g′ s v c)
+  answers-one a b (outside f′ g′ h′) (over f g s v c h) = absurd (h′ s v c)
+  answers-one a b (outside f g h) (outside f′ g′ h′) = refl
+
+  pub answering-iff : (a : Answering) → (a ≡ answering lines p) ↔ Answers lines p a
+  answering-iff a = (λ e. subst (λ (b : Answering). Answers lines p b) (sym e) (answering-holds lines p), λ h. answers-one a (answering lines p) h (answering-holds lines p))
 
 -- the same, over grid numbers
 pub answer-to-iff : (lines : List ℕ) → noneConflict lines ≡ true → (x y n : ℕ) → (n ≡ answerTo lines x y) ↔ AnswersTo lines x y n
-unfolding answerTo
+unfolding answerTo answerAt
 answer-to-iff lines sound x y n = go (order x 16383) (order y 16383)
   where
     inx : (16383 < x) ⊎ (16383 < y) → x ≤ 16383 → y ≤ 16383 → ⊥
@@ -341,14 +398,14 @@ answer-to-iff lines sound x y n = go (order x 16383) (order y 16383)
       where
         back : AnswersTo lines x y n → n ≡ 4294967295
         back (offGrid i j) = j
-        back (within i j a) = absurd (inx h i j)
+        back (within i j a b k) = absurd (inx h i j)
 
     both : (onGrid x && onGrid y) ≡ true → x ≤ 16383 → y ≤ 16383 → (n ≡ (if onGrid x && onGrid y then answerAt lines (gridPoint x y) else 4294967295)) ↔ AnswersTo lines x y n
-    both e h k = rw e (λ i. within h k (answer-iff lines (gridPoint x y) sound n .0 i), back)
+    both e h k = rw e (λ i. within h k (answering lines (gridPoint x y)) (answering-holds lines (gridPoint x y)) (tells-iff lines (answering lines (gridPoint x y)) n .0 i), back)
       where
         back : AnswersTo lines x y n → n ≡ answerAt lines (gridPoint x y)
         back (offGrid i j) = absurd (inx i h k)
-        back (within i j a) = answer-iff lines (gridPoint x y) sound n .1 a
+        back (within i j a b t) = tells-iff lines a n .1 t ∙ ap (answerOf lines) (answering-iff lines (gridPoint x y) sound a .1 b)
 
     go : (x ≤ 16383) ⊎ (16383 < x) → (y ≤ 16383) ⊎ (16383 < y) → (n ≡ (if onGrid x && onGrid y then answerAt lines (gridPoint x y) else 4294967295)) ↔ AnswersTo lines x y n
     go (inl h) (inl k) = both (and-b _ _ (le-leb x 16383 h) (le-leb y 16383 k)) h k

@@ -18,41 +18,9 @@ use Rattle.definitions.specs.Meaning.{Live}
 use Rattle.definitions.specs.Shape.{Line, turn}
 use Rattle.definitions.specs.Tables.{lineAt, noneConflict}
 use Rattle.meaning.specs.Answering.{none-conflicts}
-use Rattle.meaning.specs.Rank.{Over, Higher, higher→, higher←, higher-not, asym, higher-trans, by-turns, run-some}
+use Rattle.meaning.specs.Ahead.{Ahead, ahead, aheadByTurns, ahead→, ahead←, ahead-trans, ahead-asym}
+use Rattle.meaning.specs.Rank.{Over, higher-not, asym, by-turns, run-some}
 use Rattle.plane.specs.Turns.{turn-is, higherByTurns}
-
--- true: the higher line goes first, as below a point; false: the lower, as above it
-unfoldable pub Ahead : Bool → ℕ → Line → Line → Type 0
-Ahead true x l m = Higher x l m
-Ahead false x l m = Higher x m l
-
-unfoldable pub ahead : Bool → ℕ → Line → Line → Bool
-ahead true x l m = higher x l m
-ahead false x l m = higher x m l
-
-unfoldable pub aheadByTurns : Bool → Line → Line → Bool
-aheadByTurns true l m = higherByTurns l m
-aheadByTurns false l m = higherByTurns m l
-
-ahead→ : (d : Bool) (x : ℕ) (l m : Line) → ahead d x l m ≡ true → Ahead d x l m
-unfolding Ahead ahead
-ahead→ true x l m e = higher→ x l m e
-ahead→ false x l m e = higher→ x m l e
-
-ahead← : (d : Bool) (x : ℕ) (l m : Line) → Ahead d x l m → ahead d x l m ≡ true
-unfolding Ahead ahead
-ahead← true x l m e = higher← x l m e
-ahead← false x l m e = higher← x m l e
-
-ahead-trans : (d : Bool) (x : ℕ) (l m n : Line) → 0 < run l → 0 < run m → 0 < run n → Ahead d x l m → Ahead d x m n → Ahead d x l n
-unfolding Ahead
-ahead-trans true x l m n h i j e f = higher-trans x l m n h i j e f
-ahead-trans false x l m n h i j e f = higher-trans x n m l j i h f e
-
-ahead-asym : (d : Bool) (x : ℕ) (l m : Line) → Ahead d x l m → Ahead d x m l → ⊥
-unfolding Ahead
-ahead-asym true x l m e f = asym x l m e f
-ahead-asym false x l m e f = asym x m l e f
 
 -- one more slot looked at: q says whether its line counts, first which of two goes first
 unfoldable pub better : (lines : List ℕ) (q : Line → Bool) (first : Line → Line → Bool) → Found → ℕ → Found

@@ -3,28 +3,29 @@ use mathlib.Core.Path.{_≡_, refl, sym, _∙_, ap, subst}
 use mathlib.Core.Logic.{_↔_, _⊎_, inl, inr}
 use mathlib.Core.Bool.{Bool, true, false}
 use mathlib.Core.List.{List, [], _∷_, map, List·Memᴰ, List·Memᴰ·head, List·Memᴰ·tail, List·Memᴰ·not-nil}
-use Prim.Native.Nat.{ℕ, zero, suc, _+_, _*_, _/_, _^_, _≤_, _<_}
+use Prim.Native.Nat.{ℕ, _+_, _*_, _-_, _≤_, _<_}
 use native.Mathlib.Omega.{arith}
 use native.Mathlib.Nat.{mul-le-mul-right, mul-lt-mul-of-pos-right}
-use lib.Dec.{leb, ltb}
-use borrow.Author.Tests.{leb-true, le-ltb, ltb-true, ltb-false}
+use lib.Dec.{leb}
+use borrow.Author.Tests.{leb-true, le-ltb, ltb-false}
 use Rattle.meaning.specs.declared.Found.{Found}
 use Rattle.meaning.specs.declared.Found.the-variants.{Nothing, At}
+use Rattle.definitions.specs.declared.Answering.the-variants.{FromBelow, FromAbove, NoLine}
 use Rattle.definitions.specs.declared.Point.{Point}
 use Rattle.algebra.specs.Lists.{those-yes, those-no, in-those, of-those}
-use Rattle.algebra.specs.Signs.{positive-is}
+use Rattle.algebra.specs.Signs.{positive-is, negative-is}
 use Rattle.algebra.specs.Tests.{no-path, and-l, and-r}
-use Rattle.algebra.specs.Words.{those, if_then_else_, isPositive}
-use Rattle.definitions.specs.Lookup.{westEnd, eastEnd, below, run, heightOver, upperLabel, answerAt}
-use Rattle.definitions.specs.Meaning.{spotOf, Live, Through, outside}
-use Rattle.definitions.specs.Shape.{Line, halfPoint, Block, nwOf, neOf, swOf, seOf, east, north, turn, between, meets, inside, on}
+use Rattle.algebra.specs.Words.{those}
+use Rattle.definitions.specs.Lookup.{westEnd, eastEnd, run, heightOver, answering}
+use Rattle.definitions.specs.Meaning.{spotOf, Live, Through, CountsBelow, outside}
+use Rattle.definitions.specs.Shape.{Line, halfPoint, Block, east, north, turn, between, meets, inside, on}
 use Rattle.definitions.specs.Tables.{lineAt, liveLines, noneConflict}
-use Rattle.definitions.specs.Tree.{Rule, Tree, leaf, divided, listed, treeBy, block}
-use Rattle.meaning.specs.Answering.{through-is, live-mem, mem-live, best-answers, answer-iff, none-through}
-use Rattle.plane.specs.Blocks.{double, half-power}
-use Rattle.meaning.specs.Best.{Ahead, ahead, scan, CountsAt, Tops, noTop, top, tops-less, tops-scan, Best}
+use Rattle.definitions.specs.Tree.{listed}
+use Rattle.meaning.specs.Ahead.{counts, counts-over, beyond, Ahead, ahead}
+use Rattle.meaning.specs.Answering.{through-is, live-mem, mem-live, Foremost, foremost-below, foremost-above, answering-iff, none-through}
+use Rattle.meaning.specs.Best.{scan, CountsAt, noTop, top, tops-less, tops-scan, Tops, Best}
 use Rattle.plane.specs.Compare.{order}
-use Rattle.meaning.specs.Height.{pointOver, pointOver-is, counts-below, below→}
+use Rattle.meaning.specs.Height.{pointOver, pointOver-is, counts-below, counts-above, below→, above→}
 use Rattle.plane.specs.Meeting.{meets-iff}
 use Rattle.meaning.specs.Rank.{Over, Higher, run-some, turn-height, taller, Taller, asym}
 use Rattle.plane.specs.Turns.{lefts, rights, turn-is}
@@ -68,99 +69,170 @@ listed← lines k u v e = slots (those (meets k) (liveLines lines)) (in-those (m
     slots (l ∷ ls) (List·Memᴰ·head e) = List·Memᴰ·head (ap (λ (n : Line). n .slot) e)
     slots (l ∷ ls) (List·Memᴰ·tail i) = List·Memᴰ·tail (slots ls i)
 
--- c is the best of the lines that count and whose height over p's x is from S to T
-unfoldable pub Seen : (lines : List ℕ) (d : Bool) (p : Point) (q : Line → Bool) (S T : ℕ) → Found → Type 0
-Seen lines d p q S T c = Tops lines d (p .x .0) q (λ (u : ℕ). Between (p .x .0) S T (lineAt lines u)) c
+-- ---- Two ways from a point: true is south, false is north
 
-module _ (lines : List ℕ) (d : Bool) (p : Point) (q : Line → Bool) (o : (l : Line) → q l ≡ true → Over (p .x .0) l) where
-  -- a leaf of the column looked at: next to what was seen, on its south side
-  pub seen-south : (k : Block) (S T : ℕ) (c : Found) → k .west ≤ p .x .0 → p .x .0 ≤ east k → S ≤ north k → Seen lines d p q S T c
-      → Seen lines d p q (k .south) T (scan lines q (ahead d (p .x .0)) c (listed (liveLines lines) k))
-  unfolding Seen
-  seen-south k S T c w e h t =
-      tops-less lines d (p .x .0) q (λ (u : ℕ). Between (p .x .0) S T (lineAt lines u) ⊎ List·Memᴰ u (listed (liveLines lines) k)) (λ (u : ℕ). Between (p .x .0) (k .south) T (lineAt lines u)) _ either
-      (tops-scan lines d (p .x .0) q (λ (u : ℕ). Between (p .x .0) S T (lineAt lines u)) c (listed (liveLines lines) k) (λ s m. listed→ lines k s m .0) (λ s. o (lineAt lines s)) t)
-    where
-      either : (u : ℕ) → CountsAt lines (p .x .0) q u → Between (p .x .0) (k .south) T (lineAt lines u) → Between (p .x .0) S T (lineAt lines u) ⊎ List·Memᴰ u (listed (liveLines lines) k)
-      either u j b = go (order (S * run (lineAt lines u)) (heightOver (p .x .0) (lineAt lines u)))
-        where
-          go : (S * run (lineAt lines u) ≤ heightOver (p .x .0) (lineAt lines u)) ⊎ (heightOver (p .x .0) (lineAt lines u) < S * run (lineAt lines u))
-              → Between (p .x .0) S T (lineAt lines u) ⊎ List·Memᴰ u (listed (liveLines lines) k)
-          go (inl i) = inl (record { fromSouth = i; toNorth = b .toNorth })
-          go (inr i) = inr (listed← lines k u (j .lives) (column-meets (p .x .0) k (lineAt lines u) (j .over) w e (record { fromSouth = b .fromSouth; toNorth = up _ _ _ i (mul-le-mul-right (run (lineAt lines u)) h) })))
-            where
-              up : (a b c : ℕ) → a < b → b ≤ c → a ≤ c
-              up a b c h i = omega arith
+-- the side at which the way comes into a block, and that at which it leaves it
+abbrev pub near : Bool → Block → ℕ
+near true k = north k
+near false k = k .south
 
-  -- what is best stays best, whatever is looked at
-  pub best-scan : (c : Found) (k : Block) → Best lines d (p .x .0) q c → Best lines d (p .x .0) q (scan lines q (ahead d (p .x .0)) c (listed (liveLines lines) k))
-  unfolding Best
-  best-scan c k t =
-      tops-less lines d (p .x .0) q (λ (u : ℕ). ℕ ⊎ List·Memᴰ u (listed (liveLines lines) k)) (λ (u : ℕ). ℕ) _ (λ u j b. inl b)
-      (tops-scan lines d (p .x .0) q (λ (u : ℕ). ℕ) c (listed (liveLines lines) k) (λ s m. listed→ lines k s m .0) (λ s. o (lineAt lines s)) t)
+abbrev pub far : Bool → Block → ℕ
+far true k = k .south
+far false k = north k
 
--- lines below p
-abbrev pub SeenBelow : (lines : List ℕ) (p : Point) (S T : ℕ) → Found → Type 0
-SeenBelow lines p S T c = Seen lines true p (below p) S T c
+-- the way comes to S no later than to T
+abbrev pub Before : Bool → ℕ → ℕ → Type 0
+Before true S T = T ≤ S
+Before false S T = S ≤ T
 
-abbrev pub BestBelow : (lines : List ℕ) (p : Point) → Found → Type 0
-BestBelow lines p c = Best lines true (p .x .0) (below p) c
+-- over x the line's height is from y to S
+abbrev pub Way : Bool → ℕ → ℕ → ℕ → Line → Type 0
+Way true x y S l = Between x S y l
+Way false x y S l = Between x y S l
+
+-- c is the best of the lines that count and whose height over p's x is from p to S
+unfoldable pub Seen : (lines : List ℕ) (d : Bool) (p : Point) (S : ℕ) → Found → Type 0
+Seen lines d p S c = Tops lines d (p .x .0) (counts d p) (λ (u : ℕ). Way d (p .x .0) (p .y .0) S (lineAt lines u)) c
+
+-- c is the best of all lines that count
+abbrev pub BestOf : (lines : List ℕ) (d : Bool) (p : Point) → Found → Type 0
+BestOf lines d p c = Best lines d (p .x .0) (counts d p) c
+
+-- every live line's ends lie south of T
+abbrev pub SouthOf : List ℕ → ℕ → Type 0
+SouthOf lines T = (u : ℕ) → Live lines u → (westEnd (lineAt lines u) .y .0 ≤ T) × (eastEnd (lineAt lines u) .y .0 ≤ T)
+
+of-lt : {a b : ℕ} → a < b → a ≤ b
+of-lt h = omega arith
+
+up : (a b c : ℕ) → a < b → b ≤ c → a ≤ c
+up a b c h i = omega arith
+
+upon : (a b c : ℕ) → a ≤ b → b < c → a ≤ c
+upon a b c h i = omega arith
+
+no : (a b c : ℕ) → a ≤ b → b < c → c ≤ a → ⊥
+no a b c h i j = omega arith
+
+height-south : (T x : ℕ) (l : Line) → (westEnd l .y .0 ≤ T) × (eastEnd l .y .0 ≤ T) → Over x l → heightOver x l ≤ T * run l
+unfolding heightOver run
+height-south T x l f o = go (westEnd l .x .0) (westEnd l .y .0) (eastEnd l .x .0) (eastEnd l .y .0) (f .0) (f .1) (o .fromWest) (o .beforeEast)
+  where
+    sum : (a b v u : ℕ) → a * v ≤ T * v → b * u ≤ T * u → a * v + b * u ≤ T * (v + u)
+    sum a b v u h k = omega arith
+
+    go : (a ay b by : ℕ) → ay ≤ T → by ≤ T → a ≤ x → x < b → ay * (b - x) + by * (x - a) ≤ T * (b - a)
+    go a ay b by h k i j = subst (λ (r : ℕ). ay * (b - x) + by * (x - a) ≤ T * r) {x = b - x + (x - a)} (omega arith) (sum ay by (b - x) (x - a) (mul-le-mul-right (b - x) h) (mul-le-mul-right (x - a) k))
 
 module _ (lines : List ℕ) (p : Point) where
-  -- at or north of p there is nothing below it
-  pub start-below : (S T : ℕ) → p .y .0 ≤ S → SeenBelow lines p S T Nothing
+  abbrev the : ℕ → Line
+  the u = lineAt lines u
+
+  over-at : (d : Bool) (s : ℕ) → counts d p (the s) ≡ true → Over (p .x .0) (the s)
+  over-at d s = counts-over d p (the s)
+
+  -- a leaf of the column looked at: next to what was seen
+  pub seen-next : (d : Bool) (k : Block) (S : ℕ) (c : Found) → k .west ≤ p .x .0 → p .x .0 ≤ east k → Before d (near d k) S → Seen lines d p S c
+      → Seen lines d p (far d k) (scan lines (counts d p) (ahead d (p .x .0)) c (listed (liveLines lines) k))
   unfolding Seen
-  start-below S T h = noTop (λ u b j. no _ _ _ (b .fromSouth) (below→ p (lineAt lines u) (j .passes) .1) (mul-le-mul-right (run (lineAt lines u)) h))
+  seen-next d k S c w e h t =
+      tops-less lines d (p .x .0) (counts d p) (λ (u : ℕ). Way d (p .x .0) (p .y .0) S (the u) ⊎ List·Memᴰ u (listed (liveLines lines) k)) (λ (u : ℕ). Way d (p .x .0) (p .y .0) (far d k) (the u)) _ (either d h)
+      (tops-scan lines d (p .x .0) (counts d p) (λ (u : ℕ). Way d (p .x .0) (p .y .0) S (the u)) c (listed (liveLines lines) k) (λ s m. listed→ lines k s m .0) (over-at d) t)
     where
-      no : (a b c : ℕ) → a ≤ b → b < c → c ≤ a → ⊥
-      no a b c h i j = omega arith
+      met : (u : ℕ) → Live lines u → Over (p .x .0) (the u) → k .south * run (the u) ≤ heightOver (p .x .0) (the u) → heightOver (p .x .0) (the u) ≤ north k * run (the u) → List·Memᴰ u (listed (liveLines lines) k)
+      met u v o i j = listed← lines k u v (column-meets (p .x .0) k (the u) o w e (record { fromSouth = i; toNorth = j }))
 
-  -- seen down to the map's foot: the best
-  pub all-below : (T : ℕ) (c : Found) → p .y .0 ≤ T → SeenBelow lines p 0 T c → BestBelow lines p c
-  unfolding Seen Best
-  all-below T c h t = tops-less lines true (p .x .0) (below p) (λ (u : ℕ). Between (p .x .0) 0 T (lineAt lines u)) (λ (u : ℕ). ℕ) c
-      (λ u j _. record { fromSouth = omega arith; toNorth = up _ _ _ (below→ p (lineAt lines u) (j .passes) .1) (mul-le-mul-right (run (lineAt lines u)) h) }) t
+      either : (d : Bool) → Before d (near d k) S → (u : ℕ) → CountsAt lines (p .x .0) (counts d p) u → Way d (p .x .0) (p .y .0) (far d k) (the u) → Way d (p .x .0) (p .y .0) S (the u) ⊎ List·Memᴰ u (listed (liveLines lines) k)
+      either true h u j b = go (order (S * run (the u)) (heightOver (p .x .0) (the u)))
+        where
+          go : (S * run (the u) ≤ heightOver (p .x .0) (the u)) ⊎ (heightOver (p .x .0) (the u) < S * run (the u)) → Way true (p .x .0) (p .y .0) S (the u) ⊎ List·Memᴰ u (listed (liveLines lines) k)
+          go (inl i) = inl (record { fromSouth = i; toNorth = b .toNorth })
+          go (inr i) = inr (met u (j .lives) (j .over) (b .fromSouth) (up _ _ _ i (mul-le-mul-right (run (the u)) h)))
+      either false h u j b = go (order (heightOver (p .x .0) (the u)) (S * run (the u)))
+        where
+          go : (heightOver (p .x .0) (the u) ≤ S * run (the u)) ⊎ (S * run (the u) < heightOver (p .x .0) (the u)) → Way false (p .x .0) (p .y .0) S (the u) ⊎ List·Memᴰ u (listed (liveLines lines) k)
+          go (inl i) = inl (record { fromSouth = b .fromSouth; toNorth = i })
+          go (inr i) = inr (met u (j .lives) (j .over) (upon _ _ _ (mul-le-mul-right (run (the u)) h) i) (b .toNorth))
+
+  -- what is best stays best, whatever is looked at
+  pub best-scan : (d : Bool) (c : Found) (k : Block) → BestOf lines d p c → BestOf lines d p (scan lines (counts d p) (ahead d (p .x .0)) c (listed (liveLines lines) k))
+  unfolding Best
+  best-scan d c k t =
+      tops-less lines d (p .x .0) (counts d p) (λ (u : ℕ). ℕ ⊎ List·Memᴰ u (listed (liveLines lines) k)) (λ (u : ℕ). ℕ) _ (λ u j b. inl b)
+      (tops-scan lines d (p .x .0) (counts d p) (λ (u : ℕ). ℕ) c (listed (liveLines lines) k) (λ s m. listed→ lines k s m .0) (over-at d) t)
+
+  -- up to p nothing counts
+  pub seen-start : (d : Bool) (S : ℕ) → Before d S (p .y .0) → Seen lines d p S Nothing
+  unfolding Seen counts
+  seen-start true S h = noTop (λ u b j. no _ _ _ (b .fromSouth) (below→ p (the u) (j .passes) .1) (mul-le-mul-right (run (the u)) h))
+  seen-start false S h = noTop (λ u b j. no _ _ _ (mul-le-mul-right (run (the u)) h) (above→ p (the u) (j .passes) .1) (b .toNorth))
+
+  -- seen to the map's foot, or to its head: the best
+  pub seen-foot : (c : Found) → Seen lines true p 0 c → BestOf lines true p c
+  unfolding Seen Best counts
+  seen-foot c t = tops-less lines true (p .x .0) (counts true p) (λ (u : ℕ). Between (p .x .0) 0 (p .y .0) (the u)) (λ (u : ℕ). ℕ) c
+      (λ u j _. record { fromSouth = omega arith; toNorth = of-lt (below→ p (the u) (j .passes) .1) }) t
+
+  pub seen-head : (T : ℕ) (c : Found) → SouthOf lines T → Seen lines false p T c → BestOf lines false p c
+  unfolding Seen Best counts
+  seen-head T c f t = tops-less lines false (p .x .0) (counts false p) (λ (u : ℕ). Between (p .x .0) (p .y .0) T (the u)) (λ (u : ℕ). ℕ) c
+      (λ u j _. record { fromSouth = of-lt (above→ p (the u) (j .passes) .1); toNorth = height-south T (p .x .0) (the u) (f u (j .lives)) (j .over) }) t
+
+  -- the line found lies within what was seen: the best
+  pub seen-stop : (d : Bool) (S s : ℕ) → Seen lines d p S (At s) → Before d (heightOver (p .x .0) (the s)) (S * run (the s)) → BestOf lines d p (At s)
+  unfolding Seen Best Ahead Taller counts
+  seen-stop true S s (top _ k f) r = top s k (λ u _ j a. go u j a (order (S * run (the u)) (heightOver (p .x .0) (the u))))
     where
-      up : (a b c : ℕ) → a < b → b ≤ c → a ≤ c
-      up a b c h i = omega arith
-
-  -- its point over p's x lies at or above the foot of what was seen: the best
-  pub stop-below : (S T s : ℕ) → p .y .0 ≤ T → SeenBelow lines p S T (At s) → S * run (lineAt lines s) ≤ heightOver (p .x .0) (lineAt lines s) → BestBelow lines p (At s)
-  unfolding Seen Best Ahead Taller
-  stop-below S T s h (top _ k f) r = top s k (λ u _ j a. go u j a (order (S * run (lineAt lines u)) (heightOver (p .x .0) (lineAt lines u))))
-    where
-      up : (a b c : ℕ) → a < b → b ≤ c → a ≤ c
-      up a b c h i = omega arith
-
-      over : (h r g n : ℕ) → h < S * r → S * n ≤ g → 0 < n → h * n < g * r
-      over h r g n i j k = last h r g n (mul-lt-mul-of-pos-right i k) (mul-le-mul-right r j)
+      past : (h r g n : ℕ) → h < S * r → S * n ≤ g → 0 < n → h * n < g * r
+      past h r g n i j k = last h r g n (mul-lt-mul-of-pos-right i k) (mul-le-mul-right r j)
         where
           last : (h r g n : ℕ) → h * n < S * r * n → S * n * r ≤ g * r → h * n < g * r
           last h r g n a b = omega arith
 
-      go : (u : ℕ) → CountsAt lines (p .x .0) (below p) u → Higher (p .x .0) (lineAt lines u) (lineAt lines s)
-          → (S * run (lineAt lines u) ≤ heightOver (p .x .0) (lineAt lines u)) ⊎ (heightOver (p .x .0) (lineAt lines u) < S * run (lineAt lines u)) → ⊥
-      go u j a (inl i) = f u (record { fromSouth = i; toNorth = up _ _ _ (below→ p (lineAt lines u) (j .passes) .1) (mul-le-mul-right (run (lineAt lines u)) h) }) j a
-      go u j a (inr i) = asym (p .x .0) (lineAt lines u) (lineAt lines s) a (taller (over (heightOver (p .x .0) (lineAt lines u)) (run (lineAt lines u)) (heightOver (p .x .0) (lineAt lines s)) (run (lineAt lines s)) i r (run-some (p .x .0) (lineAt lines s) (k .over))))
+      go : (u : ℕ) → CountsAt lines (p .x .0) (counts true p) u → Higher (p .x .0) (the u) (the s) → (S * run (the u) ≤ heightOver (p .x .0) (the u)) ⊎ (heightOver (p .x .0) (the u) < S * run (the u)) → ⊥
+      go u j a (inl i) = f u (record { fromSouth = i; toNorth = of-lt (below→ p (the u) (j .passes) .1) }) j a
+      go u j a (inr i) = asym (p .x .0) (the u) (the s) a (taller (past (heightOver (p .x .0) (the u)) (run (the u)) (heightOver (p .x .0) (the s)) (run (the s)) i r (run-some (p .x .0) (the s) (k .over))))
+  seen-stop false S s (top _ k f) r = top s k (λ u _ j a. go u j a (order (heightOver (p .x .0) (the u)) (S * run (the u))))
+    where
+      past : (h r g n : ℕ) → S * r < h → g ≤ S * n → 0 < n → g * r < h * n
+      past h r g n i j k = last h r g n (mul-lt-mul-of-pos-right i k) (mul-le-mul-right r j)
+        where
+          last : (h r g n : ℕ) → S * r * n < h * n → g * r ≤ S * n * r → g * r < h * n
+          last h r g n a b = omega arith
 
--- by a turn: the line's point over x lies at or above S
-pub stop-by-turn : (x S : ℕ) (l : Line) → Over x l → (isPositive (turn (westEnd l) (eastEnd l) (halfPoint x S)) ≡ false) ↔ (S * run l ≤ heightOver x l)
-stop-by-turn x S l o = (
-  λ e. lower _ _ _ _ even (ltb-false _ _ (sym (positive-is (turn-is (westEnd l) (eastEnd l) (halfPoint x S))) ∙ e)),
-  λ h. positive-is (turn-is (westEnd l) (eastEnd l) (halfPoint x S)) ∙ le-ltb _ _ (upper _ _ _ _ even h),
-)
+      go : (u : ℕ) → CountsAt lines (p .x .0) (counts false p) u → Higher (p .x .0) (the s) (the u) → (heightOver (p .x .0) (the u) ≤ S * run (the u)) ⊎ (S * run (the u) < heightOver (p .x .0) (the u)) → ⊥
+      go u j a (inl i) = f u (record { fromSouth = of-lt (above→ p (the u) (j .passes) .1); toNorth = i }) j a
+      go u j a (inr i) = asym (p .x .0) (the s) (the u) a (taller (past (heightOver (p .x .0) (the u)) (run (the u)) (heightOver (p .x .0) (the s)) (run (the s)) i r (run-some (p .x .0) (the s) (k .over))))
+
+-- by a turn: the line's point over x lies no further than S
+pub stop-by-turn : (d : Bool) (x S : ℕ) (l : Line) → Over x l → (beyond d (turn (westEnd l) (eastEnd l) (halfPoint x S)) ≡ false) ↔ Before d (heightOver x l) (S * run l)
+unfolding beyond
+stop-by-turn d x S l o = go d
   where
-    of-lt : {a b : ℕ} → a < b → a ≤ b
-    of-lt h = omega arith
-
     even : lefts (westEnd l) (eastEnd l) (halfPoint x S) + heightOver x l ≡ rights (westEnd l) (eastEnd l) (halfPoint x S) + S * run l
     even = turn-height l (halfPoint x S) (o .fromWest) (of-lt (o .beforeEast))
 
-    lower : (a b c d : ℕ) → a + b ≡ c + d → a ≤ c → d ≤ b
-    lower a b c d e k = omega arith
+    one : (a b c d : ℕ) → a + b ≡ c + d → a ≤ c → d ≤ b
+    one a b c d e k = omega arith
 
-    upper : (a b c d : ℕ) → a + b ≡ c + d → d ≤ b → a ≤ c
-    upper a b c d e k = omega arith
+    two : (a b c d : ℕ) → a + b ≡ c + d → d ≤ b → a ≤ c
+    two a b c d e k = omega arith
+
+    three : (a b c d : ℕ) → a + b ≡ c + d → c ≤ a → b ≤ d
+    three a b c d e k = omega arith
+
+    four : (a b c d : ℕ) → a + b ≡ c + d → b ≤ d → c ≤ a
+    four a b c d e k = omega arith
+
+    go : (d : Bool) → (beyond d (turn (westEnd l) (eastEnd l) (halfPoint x S)) ≡ false) ↔ Before d (heightOver x l) (S * run l)
+    go true = (
+      λ e. one _ _ _ _ even (ltb-false _ _ (sym (positive-is (turn-is (westEnd l) (eastEnd l) (halfPoint x S))) ∙ e)),
+      λ h. positive-is (turn-is (westEnd l) (eastEnd l) (halfPoint x S)) ∙ le-ltb _ _ (two _ _ _ _ even h),
+    )
+    go false = (
+      λ e. three _ _ _ _ even (ltb-false _ _ (sym (negative-is (turn-is (westEnd l) (eastEnd l) (halfPoint x S))) ∙ e)),
+      λ h. negative-is (turn-is (westEnd l) (eastEnd l) (halfPoint x S)) ∙ le-ltb _ _ (four _ _ _ _ even h),
+    )
 
 -- a line through p is listed by every block that holds p
 pub own-meets : (p : Point) (k : Block) (l : Line) → inside k p ≡ true → on p l ≡ true → meets k l ≡ true
@@ -196,75 +268,27 @@ own-leaf p k (l ∷ ls) i = go (on p l) refl (meets k l) refl (own-leaf p k ls i
     go false e true f r = those-no (on p) l ls e ∙ r ∙ sym (those-no (on p) l (those (meets k) ls) e) ∙ ap (those (on p)) (sym (those-yes (meets k) l ls f))
     go false e false f r = those-no (on p) l ls e ∙ r ∙ ap (those (on p)) (sym (those-no (meets k) l ls f))
 
--- the answer by what was found
-unfoldable pub labelOf : List ℕ → Found → ℕ
-labelOf lines Nothing = 0
-labelOf lines (At s) = upperLabel lines s
+-- ---- The answer by what was found
 
-pub answer-found : (lines : List ℕ) (p : Point) → noneConflict lines ≡ true → those (on p) (liveLines lines) ≡ [] → (c : Found) → BestBelow lines p c → answerAt lines p ≡ labelOf lines c
-unfolding labelOf Best Ahead
-answer-found lines p sound e c (noTop f) = sym (answer-iff lines p sound 0 .1 (outside (none-through lines p e) (λ u v b. f u 0 (counted u v (counts-below p (lineAt lines u) .1 b))) refl))
-  where
-    counted : (u : ℕ) → Live lines u → below p (lineAt lines u) ≡ true → CountsAt lines (p .x .0) (below p) u
-    counted u v b = record { lives = v; passes = b; over = below→ p (lineAt lines u) b .0 }
-answer-found lines p sound e c (top s k f) =
-    sym (answer-iff lines p sound (upperLabel lines s) .1 (best-answers lines p s (none-through lines p e) (record { lives = k .lives; under = k .passes; tops = λ u v b h. f u 0 (counted u v b) h }) refl))
-  where
-    counted : (u : ℕ) → Live lines u → below p (lineAt lines u) ≡ true → CountsAt lines (p .x .0) (below p) u
-    counted u v b = record { lives = v; passes = b; over = below→ p (lineAt lines u) b .0 }
+module _ (lines : List ℕ) (p : Point) (sound : noneConflict lines ≡ true) (e : those (on p) (liveLines lines) ≡ []) where
+  foremost : (d : Bool) (s : ℕ) → BestOf lines d p (At s) → Foremost lines p d s
+  unfolding Best
+  foremost d s (top _ k f) = record { lives = k .lives; passes = k .passes; tops = λ u v b h. f u 0 (record { lives = v; passes = b; over = counts-over d p (lineAt lines u) b }) h }
 
--- on a line: the first in the own leaf's list
-pub answer-on : (lines : List ℕ) (p : Point) (k : Block) (l : Line) (more : List Line) → inside k p ≡ true
-    → those (on p) (those (meets k) (liveLines lines)) ≡ l ∷ more → answerAt lines p ≡ 65536 + l .slot
-unfolding answerAt
-answer-on lines p k l more i e = rw (own-leaf p k (liveLines lines) i ∙ e, answerAt) refl
+  none-of : (d : Bool) → BestOf lines d p Nothing → (u : ℕ) → Live lines u → counts d p (lineAt lines u) ≡ true → ⊥
+  unfolding Best
+  none-of d (noTop f) u v b = f u 0 (record { lives = v; passes = b; over = counts-over d p (lineAt lines u) b })
 
--- the leaves over x, north to south, each handed to the step
-unfoldable pub column : {St : Type 0} (step : Block → List ℕ → St → St) (x : ℕ) → Tree → Block → St → St
-column step x (leaf slots) k c = step k slots c
-column step x (divided nw ne sw se) k c =
-    if ltb x (k .west + k .side / 2) then
-    column step x sw (swOf k) (column step x nw (nwOf k) c)
-    else
-    column step x se (seOf k) (column step x ne (neOf k) c)
+  pub found-below : (s : ℕ) → BestOf lines true p (At s) → FromBelow s ≡ answering lines p
+  found-below s b = answering-iff lines p sound (FromBelow s) .1 (foremost-below lines p s (none-through lines p e) (foremost true s b))
 
-module _ (rule : Rule) {St : Type 0} (step : Block → List ℕ → St → St) (x : ℕ) (lines : List Line) (P : ℕ → St → Type 0)
-    (each : (k : Block) (c : St) → k .west ≤ x → x ≤ east k → P (north k) c → P (k .south) (step k (listed lines k) c)) where
-  -- a fact of what was seen so far holds after the column, if each leaf of it keeps it
-  pub column-keeps : (n west south : ℕ) (c : St) → west ≤ x → x ≤ west + 2 ^ suc n → P (south + 2 ^ suc n) c
-      → P south (column step x (treeBy rule lines n west south) (block n west south) c)
-  unfolding column treeBy
-  column-keeps zero west south c h k i = each (block zero west south) c h k i
-  column-keeps (suc n) west south c h k i =
-      go (rule (block (suc n) west south) lines) (λ w s d a b j. column-keeps n w s d a b j)
-    where
-      twice : 2 ^ suc (suc n) ≡ 2 ^ suc n + 2 ^ suc n
-      twice = double (suc n)
+  nothing-below : BestOf lines true p Nothing → (u : ℕ) → Live lines u → CountsBelow p (lineAt lines u) → ⊥
+  unfolding counts
+  nothing-below b u v c = none-of true b u v (counts-below p (lineAt lines u) .1 c)
 
-      sons : ((w s : ℕ) (d : St) → w ≤ x → x ≤ w + 2 ^ suc n → P (s + 2 ^ suc n) d → P s (column step x (treeBy rule lines n w s) (block n w s) d))
-          → (t : Bool) → ltb x (west + 2 ^ suc n) ≡ t
-          → P south (if t then
-          column step x (treeBy rule lines n west south) (block n west south) (column step x (treeBy rule lines n west (south + 2 ^ suc n)) (block n west (south + 2 ^ suc n)) c)
-          else
-          column step x (treeBy rule lines n (west + 2 ^ suc n) south) (block n (west + 2 ^ suc n) south) (column step x (treeBy rule lines n (west + 2 ^ suc n) (south + 2 ^ suc n)) (block n (west + 2 ^ suc n) (south + 2 ^ suc n)) c))
-      sons f true e =
-          let l : x < west + 2 ^ suc n = ltb-true x (west + 2 ^ suc n) e in
-          let u : x ≤ west + 2 ^ suc n = omega arith in
-          f west south _ h u (f west (south + 2 ^ suc n) c h u (subst (λ (y : ℕ). P y c) {x = south + 2 ^ suc (suc n)} (omega (arith, twice)) i))
-      sons f false e =
-          let l : west + 2 ^ suc n ≤ x = ltb-false x (west + 2 ^ suc n) e in
-          let u : x ≤ west + 2 ^ suc n + 2 ^ suc n = omega (arith, twice) in
-          f (west + 2 ^ suc n) south _ l u (f (west + 2 ^ suc n) (south + 2 ^ suc n) c l u (subst (λ (y : ℕ). P y c) {x = south + 2 ^ suc (suc n)} (omega (arith, twice)) i))
+  pub found-above : (s : ℕ) → BestOf lines true p Nothing → BestOf lines false p (At s) → FromAbove s ≡ answering lines p
+  found-above s n b = answering-iff lines p sound (FromAbove s) .1 (foremost-above lines p s (none-through lines p e) (nothing-below n) (foremost false s b))
 
-      go : (t : Bool) → ((w s : ℕ) (d : St) → w ≤ x → x ≤ w + 2 ^ suc n → P (s + 2 ^ suc n) d → P s (column step x (treeBy rule lines n w s) (block n w s) d))
-          → P south (column step x (elim t [
-            | true ↦ leaf (listed lines (block (suc n) west south))
-            | false ↦ divided (treeBy rule lines n west (south + 2 ^ suc n)) (treeBy rule lines n (west + 2 ^ suc n) (south + 2 ^ suc n)) (treeBy rule lines n west south) (treeBy rule lines n (west + 2 ^ suc n) south)
-          ]) (block (suc n) west south) c)
-      go true f = each (block (suc n) west south) c h k i
-      go false f =
-          subst (λ (h : ℕ). P south (if ltb x (west + h) then
-          column step x (treeBy rule lines n west south) (record { west = west; south = south; side = h }) (column step x (treeBy rule lines n west (south + 2 ^ suc n)) (record { west = west; south = south + h; side = h }) c)
-          else
-          column step x (treeBy rule lines n (west + 2 ^ suc n) south) (record { west = west + h; south = south; side = h }) (column step x (treeBy rule lines n (west + 2 ^ suc n) (south + 2 ^ suc n)) (record { west = west + h; south = south + h; side = h }) c)))
-          (sym (half-power n)) (sons f (ltb x (west + 2 ^ suc n)) refl)
+  pub found-none : BestOf lines true p Nothing → BestOf lines false p Nothing → NoLine ≡ answering lines p
+  unfolding counts
+  found-none n b = answering-iff lines p sound NoLine .1 (outside (none-through lines p e) (nothing-below n) (λ u v c. none-of false b u v (counts-above p (lineAt lines u) .1 c)))

@@ -8,11 +8,11 @@ use native.Mathlib.Nat.{mul-lt-mul-of-pos-right, mul-pos, le-of-mul-le-mul-right
 use lib.Dec.{leb, ltb}
 use borrow.Author.Tests.{leb-true, le-leb, lt-ltb, ltb-true, ltb-false}
 use Rattle.definitions.specs.declared.Point.{Point}
-use Rattle.algebra.specs.Signs.{positive-is, equal-of-zero, zero-of-equal}
+use Rattle.algebra.specs.Signs.{positive-is, negative-is, equal-of-zero, zero-of-equal}
 use Rattle.algebra.specs.Tests.{and-l, and-r, and-b}
-use Rattle.algebra.specs.Words.{if_then_else_, isPositive}
-use Rattle.definitions.specs.Lookup.{westEnd, eastEnd, below, run, heightOver}
-use Rattle.definitions.specs.Meaning.{Spot, OnLine, Steeper, PointOver, CountsBelow, NoneHigher}
+use Rattle.algebra.specs.Words.{if_then_else_, isPositive, isNegative}
+use Rattle.definitions.specs.Lookup.{westEnd, eastEnd, below, above, run, heightOver}
+use Rattle.definitions.specs.Meaning.{Spot, OnLine, Steeper, PointOver, CountsBelow, CountsAbove, NoneHigher}
 use Rattle.definitions.specs.Shape.{Line, minX, maxX, turn}
 use Rattle.plane.specs.Compare.{order}
 use Rattle.plane.specs.Crossing.{back, mix-line}
@@ -107,33 +107,52 @@ spot-height x l s o p =
     go a ay b by Y Z h k e = ap (λ (n : ℕ). Y * n) {x = b - a} {y = b - x + (x - a)} (omega arith) ∙ numbers a ay b by Y Z (x - a) (b - x) (omega arith) (omega arith) e
 
 -- below and above, by heights
-pub below→ : (p : Point) (l : Line) → below p l ≡ true → Over (p .x .0) l × (heightOver (p .x .0) l < p .y .0 * run l)
-unfolding below
-below→ p l e = (o, lower _ _ _ _ (turn-height l p (o .fromWest) (of-lt (o .beforeEast))) (ltb-true _ _ (sym (positive-is (turn-is (westEnd l) (eastEnd l) p)) ∙ and-r (leb (westEnd l .x .0) (p .x .0) && ltb (p .x .0) (eastEnd l .x .0)) (isPositive (turn (westEnd l) (eastEnd l) p)) e)))
-  where
-    f : leb (westEnd l .x .0) (p .x .0) && ltb (p .x .0) (eastEnd l .x .0) ≡ true
-    f = and-l (leb (westEnd l .x .0) (p .x .0) && ltb (p .x .0) (eastEnd l .x .0)) (isPositive (turn (westEnd l) (eastEnd l) p)) e
+of-lt : {a b : ℕ} → a < b → a ≤ b
+of-lt h = omega arith
 
-    o : Over (p .x .0) l
-    o = record { fromWest = leb-true _ _ (and-l (leb (westEnd l .x .0) (p .x .0)) (ltb (p .x .0) (eastEnd l .x .0)) f); beforeEast = ltb-true _ _ (and-r (leb (westEnd l .x .0) (p .x .0)) (ltb (p .x .0) (eastEnd l .x .0)) f) }
+module _ (p : Point) (l : Line) where
+  abbrev range : Bool
+  range = leb (westEnd l .x .0) (p .x .0) && ltb (p .x .0) (eastEnd l .x .0)
 
-    of-lt : {a b : ℕ} → a < b → a ≤ b
-    of-lt h = omega arith
+  range→ : range ≡ true → Over (p .x .0) l
+  range→ e = record { fromWest = leb-true _ _ (and-l (leb (westEnd l .x .0) (p .x .0)) (ltb (p .x .0) (eastEnd l .x .0)) e); beforeEast = ltb-true _ _ (and-r (leb (westEnd l .x .0) (p .x .0)) (ltb (p .x .0) (eastEnd l .x .0)) e) }
 
-    lower : (a b c d : ℕ) → a + b ≡ c + d → c < a → b < d
-    lower a b c d e k = omega arith
+  range← : Over (p .x .0) l → range ≡ true
+  range← o = and-b _ _ (le-leb _ _ (o .fromWest)) (lt-ltb _ _ (o .beforeEast))
 
-pub below← : (p : Point) (l : Line) → Over (p .x .0) l → heightOver (p .x .0) l < p .y .0 * run l → below p l ≡ true
-unfolding below
-below← p l o h =
-    and-b _ _ (and-b _ _ (le-leb _ _ (o .fromWest)) (lt-ltb _ _ (o .beforeEast)))
-    (positive-is (turn-is (westEnd l) (eastEnd l) p) ∙ lt-ltb _ _ (upper _ _ _ _ (turn-height l p (o .fromWest) (of-lt (o .beforeEast))) h))
-  where
-    of-lt : {a b : ℕ} → a < b → a ≤ b
-    of-lt h = omega arith
+  pub below→ : below p l ≡ true → Over (p .x .0) l × (heightOver (p .x .0) l < p .y .0 * run l)
+  unfolding below
+  below→ e = (o, lower _ _ _ _ (turn-height l p (o .fromWest) (of-lt (o .beforeEast))) (ltb-true _ _ (sym (positive-is (turn-is (westEnd l) (eastEnd l) p)) ∙ and-r range (isPositive (turn (westEnd l) (eastEnd l) p)) e)))
+    where
+      o : Over (p .x .0) l
+      o = range→ (and-l range (isPositive (turn (westEnd l) (eastEnd l) p)) e)
 
-    upper : (a b c d : ℕ) → a + b ≡ c + d → b < d → c < a
-    upper a b c d e k = omega arith
+      lower : (a b c d : ℕ) → a + b ≡ c + d → c < a → b < d
+      lower a b c d e k = omega arith
+
+  pub below← : Over (p .x .0) l → heightOver (p .x .0) l < p .y .0 * run l → below p l ≡ true
+  unfolding below
+  below← o h = and-b _ _ (range← o) (positive-is (turn-is (westEnd l) (eastEnd l) p) ∙ lt-ltb _ _ (upper _ _ _ _ (turn-height l p (o .fromWest) (of-lt (o .beforeEast))) h))
+    where
+      upper : (a b c d : ℕ) → a + b ≡ c + d → b < d → c < a
+      upper a b c d e k = omega arith
+
+  pub above→ : above p l ≡ true → Over (p .x .0) l × (p .y .0 * run l < heightOver (p .x .0) l)
+  unfolding above
+  above→ e = (o, upper _ _ _ _ (turn-height l p (o .fromWest) (of-lt (o .beforeEast))) (ltb-true _ _ (sym (negative-is (turn-is (westEnd l) (eastEnd l) p)) ∙ and-r range (isNegative (turn (westEnd l) (eastEnd l) p)) e)))
+    where
+      o : Over (p .x .0) l
+      o = range→ (and-l range (isNegative (turn (westEnd l) (eastEnd l) p)) e)
+
+      upper : (a b c d : ℕ) → a + b ≡ c + d → a < c → d < b
+      upper a b c d e k = omega arith
+
+  pub above← : Over (p .x .0) l → p .y .0 * run l < heightOver (p .x .0) l → above p l ≡ true
+  unfolding above
+  above← o h = and-b _ _ (range← o) (negative-is (turn-is (westEnd l) (eastEnd l) p) ∙ lt-ltb _ _ (lower _ _ _ _ (turn-height l p (o .fromWest) (of-lt (o .beforeEast))) h))
+    where
+      lower : (a b c d : ℕ) → a + b ≡ c + d → d < b → a < c
+      lower a b c d e k = omega arith
 
 -- the computed test is the paper's
 pub counts-below : (p : Point) (l : Line) → (below p l ≡ true) ↔ CountsBelow p l
@@ -154,6 +173,26 @@ counts-below p l = (
     lower h y r Y Z e k i = lt-of-mul-lt-mul-right Z (last h y r Y Z e (mul-lt-mul-of-pos-right k i))
       where
         last : (h y r Y Z : ℕ) → Y * r ≡ h * Z → Y * r < y * Z * r → h * Z < y * r * Z
+        last h y r Y Z e k = omega arith
+
+pub counts-above : (p : Point) (l : Line) → (above p l ≡ true) ↔ CountsAbove p l
+unfolding pointOver
+counts-above p l = (
+  λ e. let b = above→ p l e in record {
+    fromWest = over-range (p .x .0) l (b .0) .0;
+    beforeEast = over-range (p .x .0) l (b .0) .1;
+    spot = pointOver (p .x .0) l (b .0);
+    there = pointOver-is (p .x .0) l (b .0);
+    over = b .1;
+  },
+  λ c. let o = over-is (p .x .0) l (c .fromWest) (c .beforeEast) in
+      above← p l o (upper (heightOver (p .x .0) l) (p .y .0) (run l) (c .spot .Y) (c .spot .Z) (spot-height (p .x .0) l (c .spot) o (c .there)) (c .over) (run-some (p .x .0) l o)),
+)
+  where
+    upper : (h y r Y Z : ℕ) → Y * r ≡ h * Z → y * Z < Y → 0 < r → y * r < h
+    upper h y r Y Z e k i = lt-of-mul-lt-mul-right Z (last h y r Y Z e (mul-lt-mul-of-pos-right k i))
+      where
+        last : (h y r Y Z : ℕ) → Y * r ≡ h * Z → y * Z * r < Y * r → y * r * Z < h * Z
         last h y r Y Z e k = omega arith
 
 -- the order of two points is the order of the heights

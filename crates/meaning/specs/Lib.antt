@@ -12,6 +12,7 @@ pub mod Show
 pub mod Weigh
 pub mod Rank
 pub mod Height
+pub mod Ahead
 pub mod Answering
 pub mod Best
 pub mod Column
