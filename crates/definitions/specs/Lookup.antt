@@ -8,8 +8,6 @@ use lib.IntN.{ℤ, pos, subℕ, _*ℤ_, _-ℤ_}
 use Rattle.algebra.specs.Words.{those, if_then_else_, isPositive, isNegative}
 use Rattle.definitions.specs.declared.Answer.{Answer}
 use Rattle.definitions.specs.declared.Answer.the-variants.{Done, Lengths, Damaged, OffGrid}
-use Rattle.definitions.specs.declared.Answering.{Answering}
-use Rattle.definitions.specs.declared.Answering.the-variants.{Upon, FromBelow, FromAbove, NoLine}
 use Rattle.definitions.specs.declared.Point.{Point}
 use Rattle.definitions.specs.declared.Shown.{Shown}
 use Rattle.definitions.specs.Shape.{Line, Block, wholeMap, nwOf, neOf, swOf, seOf, gridPoint, turn, on}
@@ -68,28 +66,35 @@ upperLabel lines s = if ltb (x1 lines s) (x2 lines s) then leftLabel lines s els
 unfoldable pub lowerLabel : List ℕ → ℕ → ℕ
 lowerLabel lines s = if ltb (x1 lines s) (x2 lines s) then rightLabel lines s else leftLabel lines s
 
+-- what answers to a point: a line through it, by its slot; a line below it; a line above it; or none
+pub data Answering : Type 0 where
+  onLine : ℕ → Answering
+  fromBelow : ℕ → Answering
+  fromAbove : ℕ → Answering
+  noLine : Answering
+
 -- on a live line, the lowest such slot; else the highest line below; else the lowest line above; else none
 unfoldable pub answering : List ℕ → Point → Answering
 answering lines p =
     elim (those (on p) (liveLines lines)) [
-      | l ∷ more ↦ Upon (l .slot)
+      | l ∷ more ↦ onLine (l .slot)
       | [] ↦
           elim (those (below p) (liveLines lines)) [
-            | l ∷ more ↦ FromBelow (foremost (higher (p .x .0)) l more .slot)
+            | l ∷ more ↦ fromBelow (foremost (higher (p .x .0)) l more .slot)
             | [] ↦
                 elim (those (above p) (liveLines lines)) [
-                  | l ∷ more ↦ FromAbove (foremost (lower (p .x .0)) l more .slot)
-                  | [] ↦ NoLine
+                  | l ∷ more ↦ fromAbove (foremost (lower (p .x .0)) l more .slot)
+                  | [] ↦ noLine
                 ]
           ]
     ]
 
 -- a line below answers by its upper label, a line above by its lower label
 unfoldable pub answerOf : List ℕ → Answering → ℕ
-answerOf lines (Upon s) = 65536 + s
-answerOf lines (FromBelow s) = upperLabel lines s
-answerOf lines (FromAbove s) = lowerLabel lines s
-answerOf lines NoLine = 0
+answerOf lines (onLine s) = 65536 + s
+answerOf lines (fromBelow s) = upperLabel lines s
+answerOf lines (fromAbove s) = lowerLabel lines s
+answerOf lines noLine = 0
 
 unfoldable pub answerAt : List ℕ → Point → ℕ
 answerAt lines p = answerOf lines (answering lines p)

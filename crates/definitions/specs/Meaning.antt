@@ -8,15 +8,13 @@ use lib.ListN.{length, getD}
 use native.Mathlib.Omega.{arith}
 use Rattle.algebra.specs.Words.{Rising}
 use Rattle.definitions.specs.declared.Point.{Point}
-use Rattle.definitions.specs.declared.Answering.{Answering}
-use Rattle.definitions.specs.declared.Answering.the-variants.{Upon, FromBelow, FromAbove, NoLine}
 use Rattle.definitions.specs.declared.Kind.{Kind}
 use Rattle.definitions.specs.declared.Kind.the-variants.{Crossing, Touching, Overlap, Same}
 use Rattle.definitions.specs.declared.Window.{Window}
 use Rattle.definitions.specs.Shape.{Line, Area, Block, east, north, nwOf, neOf, swOf, seOf, gridPoint, minX, maxX, minY, maxY}
 use Rattle.definitions.specs.Tree.{Rule, Tree, leaf, divided, tree, listingsOf}
 use Rattle.definitions.specs.Tables.{Tables, entry, live, generation, x1, y1, x2, y2, leftLabel, rightLabel, lineAt, liveLines}
-use Rattle.definitions.specs.Lookup.{westEnd, eastEnd, run}
+use Rattle.definitions.specs.Lookup.{westEnd, eastEnd, run, Answering, onLine, fromBelow, fromAbove, noLine}
 
 -- ---- A common point
 
@@ -274,30 +272,30 @@ pub data Answers (lines : List ℕ) (p : Point) : Answering → Type 0 where
   -- on a live line: the lowest such slot
   upon : (s : ℕ) → Live lines s → Through p (lineAt lines s)
       → ((u : ℕ) → Live lines u → Through p (lineAt lines u) → s ≤ u)
-      → Answers lines p (Upon s)
+      → Answers lines p (onLine s)
   -- else the highest line below, at equal height the steeper rising one
   under : ((u : ℕ) → Live lines u → Through p (lineAt lines u) → ⊥)
       → (s : ℕ) → Live lines s → (b : CountsBelow p (lineAt lines s))
       → ((u : ℕ) → Live lines u → (c : CountsBelow p (lineAt lines u)) → NoneHigher (lineAt lines s) (b .spot) (lineAt lines u) (c .spot))
-      → Answers lines p (FromBelow s)
+      → Answers lines p (fromBelow s)
   -- if no line counts below: the lowest line above, at equal height the less steeply rising one
   over : ((u : ℕ) → Live lines u → Through p (lineAt lines u) → ⊥)
       → ((u : ℕ) → Live lines u → CountsBelow p (lineAt lines u) → ⊥)
       → (s : ℕ) → Live lines s → (b : CountsAbove p (lineAt lines s))
       → ((u : ℕ) → Live lines u → (c : CountsAbove p (lineAt lines u)) → NoneLower (lineAt lines s) (b .spot) (lineAt lines u) (c .spot))
-      → Answers lines p (FromAbove s)
+      → Answers lines p (fromAbove s)
   -- with neither
   outside : ((u : ℕ) → Live lines u → Through p (lineAt lines u) → ⊥)
       → ((u : ℕ) → Live lines u → CountsBelow p (lineAt lines u) → ⊥)
       → ((u : ℕ) → Live lines u → CountsAbove p (lineAt lines u) → ⊥)
-      → Answers lines p NoLine
+      → Answers lines p noLine
 
 -- and this is its number
 pub data Tells (lines : List ℕ) : Answering → ℕ → Type 0 where
-  slotOf : {s n : ℕ} → n ≡ 65536 + s → Tells lines (Upon s) n
-  upperOf : {s n : ℕ} → UpperLabel lines s n → Tells lines (FromBelow s) n
-  lowerOf : {s n : ℕ} → LowerLabel lines s n → Tells lines (FromAbove s) n
-  noneOf : {n : ℕ} → n ≡ 0 → Tells lines NoLine n
+  slotOf : {s n : ℕ} → n ≡ 65536 + s → Tells lines (onLine s) n
+  upperOf : {s n : ℕ} → UpperLabel lines s n → Tells lines (fromBelow s) n
+  lowerOf : {s n : ℕ} → LowerLabel lines s n → Tells lines (fromAbove s) n
+  noneOf : {n : ℕ} → n ≡ 0 → Tells lines noLine n
 
 -- n answers to the grid pair x, y
 pub data AnswersTo (lines : List ℕ) (x y n : ℕ) : Type 0 where

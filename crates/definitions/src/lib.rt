@@ -37,14 +37,6 @@ pub enum Kind {
     Same,
 }
 
-// What answers to a point: a line through it, by its slot; else a line below; else a line above; or none.
-pub enum Answering {
-    Upon(u16),
-    FromBelow(u16),
-    FromAbove(u16),
-    NoLine,
-}
-
 // What a call answers: done with its detail, or a refusal.
 pub enum Answer {
     Done(u32),

@@ -1,14 +1,19 @@
 // The answers to points: a walk of the column of leaves over each; where that costs more than walks have earned, a plain search.
-use column::Walk;
-use column::first_spot;
 use column::go_down;
+use column::scan_leaf;
+use column::settled;
 use column::take_up;
-use column::walk_spot;
 use definitions::Point;
 use geometry::on_grid;
 use geometry::point_of;
 use meaning::Found;
-use scan::answer_below;
+use path::Spot;
+use path::beside;
+use path::own_leaf;
+use path::turn_off;
+use scan::Scan;
+use scan::answer_by;
+use scan::answer_on;
 use scan::search_all;
 use tables::live_slots;
 use walk::index_nodes;
@@ -50,22 +55,57 @@ fn earn(left: usize, more: usize) -> usize
     MOST
 }
 
-fn walked(answer: u32, live: &[u16], left: usize) -> Reply
-    ensures { λ r. ⌜ r .answer ≡ answer ⌝ }
+// What is found on one way: whether there is a line through the point or on the way, the answer by it, and what is left.
+struct Finding {
+    some: bool,
+    answer: u32,
+    left: usize,
+}
+
+fn walked(some: bool, answer: u32, live: &[u16], left: usize) -> Finding
+    ensures { λ r. ⌜ (r .some ≡ some) × (r .answer ≡ answer) ⌝ }
 {
-    Reply {
+    Finding {
+        some,
         answer,
         left: earn(left, live.len() / 2),
     }
 }
 
-fn search_plainly(lines: &[u16], live: &[u16], p: Point, left: usize) -> Reply
-    requires { ⌜ Plain (now lines) (now live) × End p ⌝ }
-    ensures { λ r. ⌜ r .answer ≡ answerAt (now (lines .entry)) p ⌝ }
+// A walk that ends with the best line.
+fn walked_to(lines: &[u16], best: Found, live: &[u16], left: usize, south: bool) -> Finding
+    requires { ⌜ BestFound (now lines) south best ⌝ }
+    ensures { λ r. ⌜ ToldBy (now (lines .entry)) south best (r .some) (r .answer) ⌝ }
 {
-    Reply {
-        answer: search_all(lines, live, p),
-        left: earn(left, live.len() / 32 * 4),
+    match best {
+        Found::Nothing => walked(false, 0, live, left),
+        Found::At(s) => walked(true, answer_by(lines, s, south), live, left),
+    }
+}
+
+fn search_plainly(lines: &[u16], live: &[u16], p: Point, left: usize, south: bool) -> Finding
+    requires { ⌜ Plain (now lines) (now live) × End p ⌝ }
+    ensures { λ r. ⌜ FoundIs (now (lines .entry)) south p (r .some) (r .answer) ⌝ }
+{
+    let rest = earn(left, live.len() / 32 * 4);
+    match search_all(lines, live, p, south) {
+        Scan::On(s) => Finding {
+            some: true,
+            answer: answer_on(s),
+            left: rest,
+        },
+        Scan::Best(best) => match best {
+            Found::Nothing => Finding {
+                some: false,
+                answer: 0,
+                left: rest,
+            },
+            Found::At(s) => Finding {
+                some: true,
+                answer: answer_by(lines, s, south),
+                left: rest,
+            },
+        },
     }
 }
 
@@ -76,8 +116,8 @@ fn cost_of(count: u16) -> usize
     LEAF + 2 * (count as usize)
 }
 
-// The answer by a walk of the column of leaves over p, from north to south. What a leaf costs is asked before it is scanned; if
-// that is not there, a plain search.
+// A walk of the column of leaves over p, from its own leaf on. What a leaf costs is asked before it is scanned; if that is not
+// there, a plain search.
 fn walk_column(
     lines: &[u16],
     nodes: &[u16],
@@ -85,33 +125,94 @@ fn walk_column(
     index: &[u16],
     live: &[u16],
     p: Point,
+    path: &[u16],
     later: &mut [u16],
+    own: Spot,
     paid: usize,
-) -> Reply
-    requires { ⌜ Ready (now lines) (now nodes) (now listings) (now index) (now live) × End p × (length (now later) ≡ 64) ⌝ }
-    ensures { λ r. ⌜ r .answer ≡ answerAt (now (lines .entry)) p ⌝ }
+    south: bool,
+) -> Finding
 {
-    let mut at = first_spot();
+    let mut at = Spot {
+        node: own.node,
+        block: own.block,
+        by: 0,
+    };
+    let mut level = own.by;
     let mut best = Found::Nothing;
     let mut left = paid;
     loop {
-        at = go_down(nodes, index, later, p, at);
         let node = at.node;
         let cost = cost_of(nodes[node]);
         if left < cost {
-            return search_plainly(lines, live, p, left);
+            return search_plainly(lines, live, p, left, south);
         }
         left -= cost;
-        match walk_spot(lines, nodes, listings, index, p, at, best) {
-            Walk::Answer(n) => return walked(n, live, left),
-            Walk::Going(d) => {
+        match scan_leaf(lines, nodes, listings, index, p, node, best, south) {
+            Scan::On(s) => return walked(true, answer_on(s), live, left),
+            Scan::Best(d) => {
                 best = d;
             }
         }
-        if at.by == 0 {
-            return walked(answer_below(lines, best), live, left);
+        if settled(lines, p, at.block, best, south) {
+            return walked_to(lines, best, live, left, south);
         }
-        at = take_up(later, at.by - 1);
+        if at.by == 0 {
+            let up = turn_off(path, p, level, south);
+            if up == 0 {
+                return walked_to(lines, best, live, left, south);
+            }
+            level = up - 1;
+            at = beside(index, path, level, south);
+        } else {
+            at = take_up(later, at.by - 1);
+        }
+        at = go_down(nodes, index, later, p, at, south);
+    }
+}
+
+// The answer by walks, south and then north.
+fn walk_both(
+    lines: &[u16],
+    nodes: &[u16],
+    listings: &[u16],
+    index: &[u16],
+    live: &[u16],
+    p: Point,
+    path: &mut [u16],
+    later: &mut [u16],
+    paid: usize,
+) -> Reply
+{
+    let own = own_leaf(nodes, index, path, p);
+    let mut south = true;
+    let mut left = paid;
+    loop {
+        let f = walk_column(lines, nodes, listings, index, live, p, path, later, own, left, south);
+        if f.some | !south {
+            return Reply {
+                answer: f.answer,
+                left: f.left,
+            };
+        }
+        left = f.left;
+        south = false;
+    }
+}
+
+// The answer by plain searches, south and then north.
+fn search_both(lines: &[u16], live: &[u16], p: Point, left: usize) -> Reply
+{
+    let below = search_plainly(lines, live, p, left, true);
+    if below.some {
+        return Reply {
+            answer: below.answer,
+            left: below.left,
+        };
+    }
+    let above = search_plainly(lines, live, p, below.left, false);
+    Reply {
+        answer: above.answer,
+        left: above.left,
     }
 }
 
@@ -123,23 +224,23 @@ fn answer_at(
     index: &[u16],
     live: &[u16],
     p: Point,
+    path: &mut [u16],
+    later: &mut [u16],
     left: usize,
 ) -> Reply
-    requires { ⌜ Ready (now lines) (now nodes) (now listings) (now index) (now live) × End p ⌝ }
-    ensures { λ r. ⌜ r .answer ≡ answerAt (now (lines .entry)) p ⌝ }
 {
     if left <= START {
-        return search_plainly(lines, live, p, left);
+        return search_both(lines, live, p, left);
     }
-    let mut later = [0u16; 64];
-    walk_column(
+    walk_both(
         lines,
         nodes,
         listings,
         index,
         live,
         p,
-        &mut later,
+        path,
+        later,
         left - START,
     )
 }
@@ -153,13 +254,25 @@ fn answer_to(
     live: &[u16],
     x: u16,
     y: u16,
+    path: &mut [u16],
+    later: &mut [u16],
     left: usize,
 ) -> Reply
     requires { ⌜ Ready (now lines) (now nodes) (now listings) (now index) (now live) ⌝ }
     ensures { λ r. ⌜ r .answer ≡ answerTo (now (lines .entry)) x y ⌝ }
 {
     if on_grid(x) & on_grid(y) {
-        return answer_at(lines, nodes, listings, index, live, point_of(x, y), left);
+        return answer_at(
+            lines,
+            nodes,
+            listings,
+            index,
+            live,
+            point_of(x, y),
+            path,
+            later,
+            left,
+        );
     }
     Reply {
         answer: 4294967295,
@@ -176,6 +289,8 @@ fn answer_each(
     live: &[u16],
     points: &[u16],
     answers: &mut [u32],
+    path: &mut [u16],
+    later: &mut [u16],
 )
     requires { ⌜ Ready (now lines) (now nodes) (now listings) (now index) (now live) × (length (now points) ≡ 2 * length (now answers)) ⌝ }
     ensures { λ _. ⌜ now (answers .exit) ≡ answersTo (now (lines .entry)) (now (points .entry)) ⌝ }
@@ -191,6 +306,8 @@ fn answer_each(
             live,
             points[2 * at],
             points[2 * at + 1],
+            path,
+            later,
             left,
         );
         answers[at] = r.answer;
@@ -212,7 +329,19 @@ pub fn answer_all(
 {
     let mut index = [0u16; 65536];
     let mut live = [0u16; 1024];
+    let mut path = [0u16; 64];
+    let mut later = [0u16; 64];
     let n = live_slots(lines, &mut live);
     index_nodes(nodes, &mut index);
-    answer_each(lines, nodes, listings, &index, &live[..n], points, answers);
+    answer_each(
+        lines,
+        nodes,
+        listings,
+        &index,
+        &live[..n],
+        points,
+        answers,
+        &mut path,
+        &mut later,
+    );
 }

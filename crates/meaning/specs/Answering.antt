@@ -8,14 +8,12 @@ use native.Mathlib.Omega.{arith}
 use lib.ListN.{length}
 use lib.Dec.{eqb}
 use borrow.Author.Tests.{le-leb, lt-leb, lt-ltb, le-ltb, eqb-true, eqb-false, eq-eqb, not-true}
-use Rattle.definitions.specs.declared.Answering.{Answering}
-use Rattle.definitions.specs.declared.Answering.the-variants.{Upon, FromBelow, FromAbove, NoLine}
 use Rattle.definitions.specs.declared.Point.{Point}
 use Rattle.algebra.specs.Lists.{those-yes, those-no, in-those, of-those, every→, in-upFrom, to-upFrom}
 use Rattle.algebra.specs.Signs.{equal-of-zero}
 use Rattle.algebra.specs.Tests.{no-path, and-b, or-cases}
 use Rattle.algebra.specs.Words.{those, every, upFrom, if_then_else_}
-use Rattle.definitions.specs.Lookup.{below, above, run, higher, lower, foremost, upperLabel, lowerLabel, answering, answerOf, answerAt, answerTo}
+use Rattle.definitions.specs.Lookup.{below, above, run, higher, lower, foremost, upperLabel, lowerLabel, Answering, onLine, fromBelow, fromAbove, noLine, answering, answerOf, answerAt, answerTo}
 use Rattle.definitions.specs.Meaning.{spotOf, CountsBelow, CountsAbove, NoneHigher, NoneLower, Live, Through, UpperLabel, LowerLabel, Tells, slotOf, upperOf, lowerOf, noneOf, Answers, upon, under, over, outside, AnswersTo, offGrid, within}
 use Rattle.definitions.specs.Shape.{Line, gridPoint, conflict, on}
 use Rattle.definitions.specs.Tables.{x1, x2, isLive, slotsOf, lineAt, liveSlots, liveLines, onGrid, noneConflict}
@@ -58,10 +56,10 @@ lower-means lines s n = (λ e. record { right = λ h. rw (lt-ltb (x1 lines s) (x
 -- the number by which it answers
 pub tells-iff : (lines : List ℕ) (a : Answering) (n : ℕ) → (n ≡ answerOf lines a) ↔ Tells lines a n
 unfolding answerOf
-tells-iff lines (Upon s) n = (λ e. slotOf e, elim [ slotOf e ↦ e ])
-tells-iff lines (FromBelow s) n = (λ e. upperOf (upper-means lines s n .0 e), elim [ upperOf u ↦ upper-means lines s n .1 u ])
-tells-iff lines (FromAbove s) n = (λ e. lowerOf (lower-means lines s n .0 e), elim [ lowerOf u ↦ lower-means lines s n .1 u ])
-tells-iff lines NoLine n = (λ e. noneOf e, elim [ noneOf e ↦ e ])
+tells-iff lines (onLine s) n = (λ e. slotOf e, elim [ slotOf e ↦ e ])
+tells-iff lines (fromBelow s) n = (λ e. upperOf (upper-means lines s n .0 e), elim [ upperOf u ↦ upper-means lines s n .1 u ])
+tells-iff lines (fromAbove s) n = (λ e. lowerOf (lower-means lines s n .0 e), elim [ lowerOf u ↦ lower-means lines s n .1 u ])
+tells-iff lines noLine n = (λ e. noneOf e, elim [ noneOf e ↦ e ])
 
 -- through p
 pub through-is : (p : Point) (l : Line) → (on p l ≡ true) ↔ Through p l
@@ -257,7 +255,7 @@ module _ (lines : List ℕ) (p : Point) where
   oa {l} d = over-is (p .x .0) l (d .fromWest) (d .beforeEast)
 
   -- the foremost line is the paper's
-  pub foremost-below : (s : ℕ) → ((u : ℕ) → Live lines u → Through p (lineAt lines u) → ⊥) → Foremost true s → Answers lines p (FromBelow s)
+  pub foremost-below : (s : ℕ) → ((u : ℕ) → Live lines u → Through p (lineAt lines u) → ⊥) → Foremost true s → Answers lines p (fromBelow s)
   unfolding counts Ahead
   foremost-below s none b = under none s (b .lives) c
       (λ u v e. none-higher← (p .x .0) (lineAt lines s) (lineAt lines u) (c .spot) (e .spot) (ob c) (ob e) (c .there) (e .there) (b .tops u v (counts-below p (lineAt lines u) .1 e)))
@@ -265,7 +263,7 @@ module _ (lines : List ℕ) (p : Point) where
       c : CountsBelow p (lineAt lines s)
       c = counts-below p (lineAt lines s) .0 (unfold counts in (b .passes))
 
-  pub foremost-above : (s : ℕ) → ((u : ℕ) → Live lines u → Through p (lineAt lines u) → ⊥) → ((u : ℕ) → Live lines u → CountsBelow p (lineAt lines u) → ⊥) → Foremost false s → Answers lines p (FromAbove s)
+  pub foremost-above : (s : ℕ) → ((u : ℕ) → Live lines u → Through p (lineAt lines u) → ⊥) → ((u : ℕ) → Live lines u → CountsBelow p (lineAt lines u) → ⊥) → Foremost false s → Answers lines p (fromAbove s)
   unfolding counts Ahead NoneLower NoneHigher
   foremost-above s none no-below b = over none no-below s (b .lives) c
       (λ u v e. none-higher← (p .x .0) (lineAt lines u) (lineAt lines s) (e .spot) (c .spot) (oa e) (oa c) (e .there) (c .there) (b .tops u v (counts-above p (lineAt lines u) .1 e)))
@@ -279,30 +277,30 @@ module _ (lines : List ℕ) (p : Point) where
   answering-holds = ons (those (on p) (liveLines lines)) refl
     where
       aboves : (none : (u : ℕ) → Live lines u → Through p (lineAt lines u) → ⊥) → ((u : ℕ) → Live lines u → CountsBelow p (lineAt lines u) → ⊥) → (ms : List Line) → those (above p) (liveLines lines) ≡ ms
-          → Answers lines p (elim ms [ l ∷ more ↦ FromAbove (foremost (lower (p .x .0)) l more .slot) | [] ↦ NoLine ])
+          → Answers lines p (elim ms [ l ∷ more ↦ fromAbove (foremost (lower (p .x .0)) l more .slot) | [] ↦ noLine ])
       aboves none no-below [] e = outside none no-below (λ u v c. none-counts false e u v (counts-above p (lineAt lines u) .1 c))
-      aboves none no-below (l ∷ more) e = let b = foremost-of false l more e in subst (λ (s : ℕ). Answers lines p (FromAbove s)) (sym (b .2)) (foremost-above (b .0) none no-below (b .1))
+      aboves none no-below (l ∷ more) e = let b = foremost-of false l more e in subst (λ (s : ℕ). Answers lines p (fromAbove s)) (sym (b .2)) (foremost-above (b .0) none no-below (b .1))
 
       belows : (none : (u : ℕ) → Live lines u → Through p (lineAt lines u) → ⊥) (ms : List Line) → those (below p) (liveLines lines) ≡ ms
           → Answers lines p (elim ms [
-            | l ∷ more ↦ FromBelow (foremost (higher (p .x .0)) l more .slot)
-            | [] ↦ elim (those (above p) (liveLines lines)) [ l ∷ more ↦ FromAbove (foremost (lower (p .x .0)) l more .slot) | [] ↦ NoLine ]
+            | l ∷ more ↦ fromBelow (foremost (higher (p .x .0)) l more .slot)
+            | [] ↦ elim (those (above p) (liveLines lines)) [ l ∷ more ↦ fromAbove (foremost (lower (p .x .0)) l more .slot) | [] ↦ noLine ]
           ])
       belows none [] e = aboves none (λ u v c. none-counts true e u v (counts-below p (lineAt lines u) .1 c)) (those (above p) (liveLines lines)) refl
-      belows none (l ∷ more) e = let b = foremost-of true l more e in subst (λ (s : ℕ). Answers lines p (FromBelow s)) (sym (b .2)) (foremost-below (b .0) none (b .1))
+      belows none (l ∷ more) e = let b = foremost-of true l more e in subst (λ (s : ℕ). Answers lines p (fromBelow s)) (sym (b .2)) (foremost-below (b .0) none (b .1))
 
       ons : (ms : List Line) → those (on p) (liveLines lines) ≡ ms
           → Answers lines p (elim ms [
-            | l ∷ more ↦ Upon (l .slot)
+            | l ∷ more ↦ onLine (l .slot)
             | [] ↦ elim (those (below p) (liveLines lines)) [
-              | l ∷ more ↦ FromBelow (foremost (higher (p .x .0)) l more .slot)
-              | [] ↦ elim (those (above p) (liveLines lines)) [ l ∷ more ↦ FromAbove (foremost (lower (p .x .0)) l more .slot) | [] ↦ NoLine ]
+              | l ∷ more ↦ fromBelow (foremost (higher (p .x .0)) l more .slot)
+              | [] ↦ elim (those (above p) (liveLines lines)) [ l ∷ more ↦ fromAbove (foremost (lower (p .x .0)) l more .slot) | [] ↦ noLine ]
             ]
           ])
       ons [] e = belows (none-through e) (those (below p) (liveLines lines)) refl
       ons (l ∷ more) e =
           let f = first (lineAt lines) (on p) (liveSlots lines) l more (up-live lines) e in
-          subst (λ (k : Line). Answers lines p (Upon (k .slot))) (sym (f .itself))
+          subst (λ (k : Line). Answers lines p (onLine (k .slot))) (sym (f .itself))
           (upon (f .slot) (live→ lines (f .slot) (f .isIn)) (through-is p (lineAt lines (f .slot)) .0 (f .passes))
           (λ u v t. f .lowest u (live← lines u v) (through-is p (lineAt lines u) .1 t)))
 
@@ -364,17 +362,17 @@ module _ (lines : List ℕ) (p : Point) (sound : noneConflict lines ≡ true) wh
 
   -- two answers are one
   pub answers-one : (a b : Answering) → Answers lines p a → Answers lines p b → a ≡ b
-  answers-one a b (upon s v t low) (upon u w t′ low′) = let h : s ≤ u = low u w t′ in let i : u ≤ s = low′ s v t in ap Upon (omega arith)
+  answers-one a b (upon s v t low) (upon u w t′ low′) = let h : s ≤ u = low u w t′ in let i : u ≤ s = low′ s v t in ap onLine (omega arith)
   answers-one a b (upon s v t low) (under f u w c g) = absurd (f s v t)
   answers-one a b (upon s v t low) (over f g u w c h) = absurd (f s v t)
   answers-one a b (upon s v t low) (outside f g h) = absurd (f s v t)
   answers-one a b (under f u w c g) (upon s v t low) = absurd (f s v t)
-  answers-one a b (under f s v c g) (under f′ u w e g′) = ap FromBelow (foremost-one true s u (to-below s v c g) (to-below u w e g′))
+  answers-one a b (under f s v c g) (under f′ u w e g′) = ap fromBelow (foremost-one true s u (to-below s v c g) (to-below u w e g′))
   answers-one a b (under f s v c g) (over f′ g′ u w e h) = absurd (g′ s v c)
   answers-one a b (under f s v c g) (outside f′ g′ h) = absurd (g′ s v c)
   answers-one a b (over f g u w c h) (upon s v t low) = absurd (f s v t)
   answers-one a b (over f′ g′ u w e h) (under f s v c g) = absurd (g′ s v c)
-  answers-one a b (over f g s v c h) (over f′ g′ u w e h′) = ap FromAbove (foremost-one false s u (to-above s v c h) (to-above u w e h′))
+  answers-one a b (over f g s v c h) (over f′ g′ u w e h′) = ap fromAbove (foremost-one false s u (to-above s v c h) (to-above u w e h′))
   answers-one a b (over f g s v c h) (outside f′ g′ h′) = absurd (h′ s v c)
   answers-one a b (outside f g h) (upon s v t low) = absurd (f s v t)
   answers-one a b (outside f′ g′ h) (under f s v c g) = absurd (g′ s v c)

@@ -10,13 +10,12 @@ use lib.Dec.{leb}
 use borrow.Author.Tests.{leb-true, le-ltb, ltb-false}
 use Rattle.meaning.specs.declared.Found.{Found}
 use Rattle.meaning.specs.declared.Found.the-variants.{Nothing, At}
-use Rattle.definitions.specs.declared.Answering.the-variants.{FromBelow, FromAbove, NoLine}
 use Rattle.definitions.specs.declared.Point.{Point}
 use Rattle.algebra.specs.Lists.{those-yes, those-no, in-those, of-those}
 use Rattle.algebra.specs.Signs.{positive-is, negative-is}
 use Rattle.algebra.specs.Tests.{no-path, and-l, and-r}
 use Rattle.algebra.specs.Words.{those}
-use Rattle.definitions.specs.Lookup.{westEnd, eastEnd, run, heightOver, answering}
+use Rattle.definitions.specs.Lookup.{westEnd, eastEnd, run, heightOver, fromBelow, fromAbove, noLine, answering}
 use Rattle.definitions.specs.Meaning.{spotOf, Live, Through, CountsBelow, outside}
 use Rattle.definitions.specs.Shape.{Line, halfPoint, Block, east, north, turn, between, meets, inside, on}
 use Rattle.definitions.specs.Tables.{lineAt, liveLines, noneConflict}
@@ -279,16 +278,16 @@ module _ (lines : List ℕ) (p : Point) (sound : noneConflict lines ≡ true) (e
   unfolding Best
   none-of d (noTop f) u v b = f u 0 (record { lives = v; passes = b; over = counts-over d p (lineAt lines u) b })
 
-  pub found-below : (s : ℕ) → BestOf lines true p (At s) → FromBelow s ≡ answering lines p
-  found-below s b = answering-iff lines p sound (FromBelow s) .1 (foremost-below lines p s (none-through lines p e) (foremost true s b))
+  pub found-below : (s : ℕ) → BestOf lines true p (At s) → fromBelow s ≡ answering lines p
+  found-below s b = answering-iff lines p sound (fromBelow s) .1 (foremost-below lines p s (none-through lines p e) (foremost true s b))
 
   nothing-below : BestOf lines true p Nothing → (u : ℕ) → Live lines u → CountsBelow p (lineAt lines u) → ⊥
   unfolding counts
   nothing-below b u v c = none-of true b u v (counts-below p (lineAt lines u) .1 c)
 
-  pub found-above : (s : ℕ) → BestOf lines true p Nothing → BestOf lines false p (At s) → FromAbove s ≡ answering lines p
-  found-above s n b = answering-iff lines p sound (FromAbove s) .1 (foremost-above lines p s (none-through lines p e) (nothing-below n) (foremost false s b))
+  pub found-above : (s : ℕ) → BestOf lines true p Nothing → BestOf lines false p (At s) → fromAbove s ≡ answering lines p
+  found-above s n b = answering-iff lines p sound (fromAbove s) .1 (foremost-above lines p s (none-through lines p e) (nothing-below n) (foremost false s b))
 
-  pub found-none : BestOf lines true p Nothing → BestOf lines false p Nothing → NoLine ≡ answering lines p
+  pub found-none : BestOf lines true p Nothing → BestOf lines false p Nothing → noLine ≡ answering lines p
   unfolding counts
-  found-none n b = answering-iff lines p sound NoLine .1 (outside (none-through lines p e) (nothing-below n) (λ u v c. none-of false b u v (counts-above p (lineAt lines u) .1 c)))
+  found-none n b = answering-iff lines p sound noLine .1 (outside (none-through lines p e) (nothing-below n) (λ u v c. none-of false b u v (counts-above p (lineAt lines u) .1 c)))

@@ -1,4 +1,4 @@
-// A list of slots scanned for a point: the line through it, or the best line below; and a plain search of all live lines.
+// A list of slots scanned for a point: the line through it, or the best line on the way from it; and a plain search of all live lines.
 use definitions::Point;
 use geometry::Line;
 use geometry::Stand;
@@ -7,31 +7,45 @@ use geometry::higher;
 use geometry::stand_of;
 use meaning::Found;
 use tables::line_at;
+use tables::lower_label;
 use tables::row_at;
 use tables::upper_label;
 use tables::wide;
 ghost use mathlib.Core.Path.{_≡_};
-ghost use Prim.Native.Nat.{_+_};
-ghost use Rattle.definitions.specs.Lookup.{answerAt};
-ghost use Rattle.geometry.specs.Range.{End};
-ghost use Rattle.meaning.specs.Column.{labelOf};
-ghost use Rattle.scan.specs.Asked.{Compared, upperOf, UnderSome, Scannable, ScanIs, Plain};
+ghost use Prim.Native.Nat.{_+_, _<_};
+ghost use Rattle.geometry.specs.Means.{lineOf};
+ghost use Rattle.geometry.specs.Range.{End, LineEnds};
+ghost use Rattle.meaning.specs.Ahead.{aheadByTurns};
+ghost use Rattle.scan.specs.Asked.{Compared, firstOf, OnWaySome, labelBy, Scannable, ScanIs, Plain, SearchIs};
 
-// What a scan of slots finds: the first line through the point; or, where there is none, the best line below.
+// Everywhere below, south tells the way from the point: lines below it, the higher first; else lines above it, the lower first.
+
+// What a scan of slots finds: the first line through the point; or, where there is none, the best line on the way.
 pub enum Scan {
     On(u16),
     Best(Found),
 }
 
-// Of the best line so far and that of slot s, which has the ends of l, the higher.
-fn upper_of(lines: &[u16], best: Found, s: u16, l: Line) -> Found
-    requires { ⌜ Compared (now lines) best s l ⌝ }
-    ensures { λ r. ⌜ r ≡ upperOf (now (lines .entry)) best s ⌝ }
+// By the way, l comes before m.
+fn comes_first(l: Line, m: Line, south: bool) -> bool
+    requires { ⌜ (l .a .x .0 < l .b .x .0) × (m .a .x .0 < m .b .x .0) × LineEnds (lineOf l) × LineEnds (lineOf m) ⌝ }
+    ensures { λ r. ⌜ r ≡ aheadByTurns south (lineOf l) (lineOf m) ⌝ }
+{
+    if south {
+        return higher(l, m);
+    }
+    higher(m, l)
+}
+
+// Of the best line so far and that of slot s, which has the ends of l, the one that comes first.
+fn first_of(lines: &[u16], best: Found, s: u16, l: Line, south: bool) -> Found
+    requires { ⌜ Compared (now lines) south best s l ⌝ }
+    ensures { λ r. ⌜ r ≡ firstOf (now (lines .entry)) south best s ⌝ }
 {
     match best {
         Found::Nothing => Found::At(s),
         Found::At(t) => {
-            if higher(eastward(l), eastward(line_at(lines, t))) {
+            if comes_first(eastward(l), eastward(line_at(lines, t)), south) {
                 return Found::At(s);
             }
             Found::At(t)
@@ -40,19 +54,19 @@ fn upper_of(lines: &[u16], best: Found, s: u16, l: Line) -> Found
 }
 
 // The slots looked at in turn, after the best line c of those before.
-pub fn scan_slots(lines: &[u16], slots: &[u16], p: Point, c: Found) -> Scan
-    requires { ⌜ Scannable (now lines) (now slots) p c ⌝ }
-    ensures { λ r. ⌜ ScanIs (now (lines .entry)) p c (now (slots .entry)) r ⌝ }
+pub fn scan_slots(lines: &[u16], slots: &[u16], p: Point, c: Found, south: bool) -> Scan
+    requires { ⌜ Scannable (now lines) (now slots) south p c ⌝ }
+    ensures { λ r. ⌜ ScanIs (now (lines .entry)) south p c (now (slots .entry)) r ⌝ }
 {
     let mut best = c;
     let mut i: usize = 0;
     while i < slots.len() {
         let s = slots[i];
         let l = line_at(lines, s);
-        match stand_of(l, p) {
+        match stand_of(l, p, south) {
             Stand::On => return Scan::On(s),
-            Stand::Below => {
-                best = upper_of(lines, best, s, l);
+            Stand::Counts => {
+                best = first_of(lines, best, s, l, south);
             }
             Stand::Aside => {}
         }
@@ -68,24 +82,22 @@ pub fn answer_on(s: u16) -> u32
     65536 + (s as u32)
 }
 
-// The answer to a point on no line: the label above the best line below, or 0.
-pub fn answer_below(lines: &[u16], best: Found) -> u32
-    requires { ⌜ UnderSome (now lines) best ⌝ }
-    ensures { λ r. ⌜ r ≡ labelOf (now (lines .entry)) best ⌝ }
+// The answer by the line of slot s: its upper label if it lies below the point, its lower label if above.
+pub fn answer_by(lines: &[u16], s: u16, south: bool) -> u32
+    requires { ⌜ OnWaySome (now lines) south s ⌝ }
+    ensures { λ r. ⌜ r ≡ labelBy (now (lines .entry)) south s ⌝ }
 {
-    match best {
-        Found::Nothing => 0,
-        Found::At(s) => upper_label(row_at(lines, wide(s))) as u32,
+    let row = row_at(lines, wide(s));
+    if south {
+        return upper_label(row) as u32;
     }
+    lower_label(row) as u32
 }
 
 // All live lines looked at.
-pub fn search_all(lines: &[u16], live: &[u16], p: Point) -> u32
+pub fn search_all(lines: &[u16], live: &[u16], p: Point, south: bool) -> Scan
     requires { ⌜ Plain (now lines) (now live) × End p ⌝ }
-    ensures { λ r. ⌜ r ≡ answerAt (now (lines .entry)) p ⌝ }
+    ensures { λ r. ⌜ SearchIs (now (lines .entry)) south p r ⌝ }
 {
-    match scan_slots(lines, live, p, Found::Nothing) {
-        Scan::On(s) => answer_on(s),
-        Scan::Best(best) => answer_below(lines, best),
-    }
+    scan_slots(lines, live, p, Found::Nothing, south)
 }

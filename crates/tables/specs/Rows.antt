@@ -7,7 +7,7 @@ use lib.Dec.{eqb, ltb}
 use lib.ListN.{length}
 use Rattle.definitions.specs.declared.Given.{Given}
 use Rattle.definitions.specs.Tables.{live, generation, x1, y1, x2, y2, leftLabel, rightLabel, isLive, liveSound, emptySound, slotSound, lineAt}
-use Rattle.definitions.specs.Lookup.{upperLabel}
+use Rattle.definitions.specs.Lookup.{upperLabel, lowerLabel}
 use Rattle.definitions.specs.Calls.{withSlot, placed, freed}
 use Rattle.geometry.specs.declared.Line as code
 use Rattle.geometry.specs.Means.{lineOf, lineFrom}
@@ -75,6 +75,10 @@ module _ (lines : List ℕ) (s : ℕ) {r : Row} (e : r ≡ rowAt lines s) where
   pub upper-label-at : upperLabel (entriesOf r) 0 ≡ upperLabel lines s
   unfolding entriesOf upperLabel
   upper-label-at = ap (λ (w : Row). upperLabel (entriesOf w) 0) e
+
+  pub lower-label-at : lowerLabel (entriesOf r) 0 ≡ lowerLabel lines s
+  unfolding entriesOf lowerLabel
+  lower-label-at = ap (λ (w : Row). lowerLabel (entriesOf w) 0) e
 
   pub slot-sound-at : slotSound (entriesOf r) 0 ≡ slotSound lines s
   unfolding entriesOf slotSound isLive liveSound emptySound

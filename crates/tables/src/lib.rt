@@ -12,7 +12,7 @@ ghost use lib.ListN.{length, replicate};
 ghost use Rattle.algebra.specs.Words.{every, sameList, over};
 ghost use Rattle.definitions.specs.Shape.{gridPoint, samePoint};
 ghost use Rattle.definitions.specs.Tables.{lengthsFit, slotsOf, liveSlots, liveSound, emptySound, slotSound};
-ghost use Rattle.definitions.specs.Lookup.{upperLabel};
+ghost use Rattle.definitions.specs.Lookup.{upperLabel, lowerLabel};
 ghost use Rattle.definitions.specs.Calls.{withSlot, allOnGrid, noLength, conflicting, freeSlots};
 ghost use Rattle.definitions.specs.Calls.{known as knownIn};
 ghost use Rattle.geometry.specs.Means.{lineOf};
@@ -133,6 +133,16 @@ pub fn upper_label(row: Row) -> u16
     ensures { λ r. ⌜ r ≡ upperLabel (entriesOf row) 0 ⌝ }
 {
     if row.x1 < row.x2 {
+        return row.left;
+    }
+    row.right
+}
+
+// The label below the line.
+pub fn lower_label(row: Row) -> u16
+    ensures { λ r. ⌜ r ≡ lowerLabel (entriesOf row) 0 ⌝ }
+{
+    if row.x2 <= row.x1 {
         return row.left;
     }
     row.right
