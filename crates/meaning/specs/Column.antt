@@ -153,13 +153,6 @@ module _ (lines : List ℕ) (p : Point) where
           go (inl i) = inl (record { fromSouth = b .fromSouth; toNorth = i })
           go (inr i) = inr (met u (j .lives) (j .over) (upon _ _ _ (mul-le-mul-right (run (the u)) h) i) (b .toNorth))
 
-  -- what is best stays best, whatever is looked at
-  pub best-scan : (d : Bool) (c : Found) (k : Block) → BestOf lines d p c → BestOf lines d p (scan lines (counts d p) (ahead d (p .x .0)) c (listed (liveLines lines) k))
-  unfolding Best
-  best-scan d c k t =
-      tops-less lines d (p .x .0) (counts d p) (λ (u : ℕ). ℕ ⊎ List·Memᴰ u (listed (liveLines lines) k)) (λ (u : ℕ). ℕ) _ (λ u j b. inl b)
-      (tops-scan lines d (p .x .0) (counts d p) (λ (u : ℕ). ℕ) c (listed (liveLines lines) k) (λ s m. listed→ lines k s m .0) (over-at d) t)
-
   -- up to p nothing counts
   pub seen-start : (d : Bool) (S : ℕ) → Before d S (p .y .0) → Seen lines d p S Nothing
   unfolding Seen counts

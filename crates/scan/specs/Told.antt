@@ -1,6 +1,6 @@
 -- For callers: what a scan tells, by its answer, and which slots can be scanned.
 use mathlib.Core.Path.{_≡_, refl, subst}
-use mathlib.Core.Bool.{true}
+use mathlib.Core.Bool.{Bool, true}
 use mathlib.Core.List.{List, [], _∷_}
 use Prim.Native.Nat.{ℕ}
 use native.Mathlib.Omega.{arith}
@@ -16,25 +16,28 @@ use Rattle.meaning.specs.Best.{scan}
 use Rattle.meaning.specs.Locate.{firstOn}
 use Rattle.tables.specs.Rows.{OnMap}
 use Rattle.tables.specs.Sound.{on-map, sound-at}
-use Rattle.scan.specs.Asked.{Under, one, NoneOn, ScanIs}
+use Rattle.scan.specs.Asked.{OnWay, one, NoneOn, ScanIs, BestOn, SearchIs}
 use Rattle.scan.specs.declared.Scan.{Scan}
 use Rattle.scan.specs.declared.Scan.the-variants as Scanned
 
 -- ---- What a scan tells
 
-pub scan-best : {lines slots : List ℕ} {p : Point} {c d d′ : Found} {r : Scan} → ScanIs lines p c slots r → r ≡ Scanned.Best d → d ≡ d′ → NoneOn lines p c slots d′
-scan-best {lines} {slots} {p} {c} h e f = subst (λ (x : Found). NoneOn lines p c slots x) f (subst (λ (x : Scan). ScanIs lines p c slots x) e h)
+pub scan-best : {lines slots : List ℕ} {d : Bool} {p : Point} {c e : Found} {r : Scan} → ScanIs lines d p c slots r → r ≡ Scanned.Best e → NoneOn lines d p c slots e
+scan-best {lines} {slots} {d} {p} {c} h e = subst (λ (x : Scan). ScanIs lines d p c slots x) e h
+
+pub search-best : {lines : List ℕ} {d : Bool} {p : Point} {c e : Found} {r : Scan} → SearchIs lines d p r → r ≡ Scanned.Best c → c ≡ e → BestOn lines d p e
+search-best {lines} {d} {p} h e f = subst (λ (x : Found). BestOn lines d p x) f (subst (λ (x : Scan). SearchIs lines d p x) e h)
 
 -- a list of no slots
-pub none-there : {lines slots : List ℕ} {p : Point} {c : Found} → length slots ≡ 0 → Under lines p c → NoneOn lines p c slots c
+pub none-there : {lines slots : List ℕ} {d : Bool} {p : Point} {c : Found} → length slots ≡ 0 → OnWay lines d p c → NoneOn lines d p c slots c
 unfolding firstOn scan
-none-there {slots = []} e u = record { none-on = refl; best = refl; under = u }
+none-there {slots = []} e u = record { none-on = refl; best = refl; on-way = u }
 none-there {slots = s ∷ more} e u = absurd (omega arith)
 
 -- ---- Slots on the map
 
-pub under-map : (lines : List ℕ) {p : Point} {s : ℕ} → Under lines p (At s) → OnMap lines s
-under-map lines (one m b) = m
+pub way-map : {lines : List ℕ} {d : Bool} {p : Point} {s : ℕ} → OnWay lines d p (At s) → OnMap lines s
+way-map (one m b) = m
 
 pub live-on-map : (lines : List ℕ) (s : ℕ) → every (slotSound lines) (slotsOf lines) ≡ true → Live lines s → OnMap lines s
 unfolding isLive

@@ -16,7 +16,8 @@ ghost use Prim.Native.Nat.{_+_, _<_};
 ghost use Rattle.geometry.specs.Means.{lineOf};
 ghost use Rattle.geometry.specs.Range.{End, LineEnds};
 ghost use Rattle.meaning.specs.Ahead.{aheadByTurns};
-ghost use Rattle.scan.specs.Asked.{Compared, firstOf, OnWaySome, labelBy, Scannable, ScanIs, Plain, SearchIs};
+ghost use Rattle.tables.specs.Rows.{OnMap};
+ghost use Rattle.scan.specs.Asked.{Compared, firstOf, labelBy, Scannable, ScanIs, Plain, SearchIs};
 
 // Everywhere below, south tells the way from the point: lines below it, the higher first; else lines above it, the lower first.
 
@@ -84,7 +85,7 @@ pub fn answer_on(s: u16) -> u32
 
 // The answer by the line of slot s: its upper label if it lies below the point, its lower label if above.
 pub fn answer_by(lines: &[u16], s: u16, south: bool) -> u32
-    requires { ⌜ OnWaySome (now lines) south s ⌝ }
+    requires { ⌜ OnMap (now lines) s ⌝ }
     ensures { λ r. ⌜ r ≡ labelBy (now (lines .entry)) south s ⌝ }
 {
     let row = row_at(lines, wide(s));
