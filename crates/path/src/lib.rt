@@ -10,9 +10,10 @@ use geometry::whole_map;
 use tables::wide;
 use walk::put_four;
 ghost use mathlib.Core.Path.{_≡_};
-ghost use Prim.Native.Nat.{suc, _+_, _*_, _≤_, _<_};
+ghost use Prim.Native.Nat.{_+_, _*_, _≤_, _<_};
 ghost use lib.ListN.{length};
 ghost use Rattle.geometry.specs.Means.{blockOf};
+ghost use Rattle.path.specs.Asked.{StripOver, SonEntry, SonIs, Entered, GoneIn, PathAsked, OwnIs, wentUp, TurnedOff, TurnsOff, Beside};
 
 // The half of a block that lies over a point: 0 for the west half, 1 for the east, and its two sons.
 pub struct Strip {

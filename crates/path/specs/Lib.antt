@@ -1,0 +1,4 @@
+pub mod Placed
+pub mod Asked
+pub mod Seats
+pub mod Ways
