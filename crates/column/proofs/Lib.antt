@@ -1,3 +1,1 @@
-pub mod Descent
-pub mod Seats
 pub mod Column

@@ -18,6 +18,9 @@ ghost use Prim.Native.Nat.{_+_, _*_, _≤_, _<_};
 ghost use lib.ListN.{length};
 ghost use Rattle.geometry.specs.Means.{blockOf};
 ghost use Rattle.meaning.specs.Column.{far};
+ghost use Rattle.meaning.specs.Walk.{reached};
+ghost use Rattle.path.specs.Asked.{Entered};
+ghost use Rattle.column.specs.Asked.{GoneOn, Walking, GoneDown, TakenUp, LeafAsked, LeafTold, Settling};
 
 // Into a divided block beyond the point: to the son that comes first on the way, with the other put by.
 fn go_on(index: &[u16], later: &mut [u16], p: Point, at: Spot, south: bool) -> Spot
@@ -93,7 +96,7 @@ pub fn scan_leaf(
     c: Found,
     south: bool,
 ) -> Scan
-    requires { ⌜ LeafScanned (now lines) (now nodes) (now listings) (now index) p node c south ⌝ }
+    requires { ⌜ LeafAsked (now lines) (now nodes) (now listings) (now index) p node c south ⌝ }
     ensures { λ r. ⌜ LeafTold (now (lines .entry)) (now (nodes .entry)) (now (listings .entry)) (now (index .entry)) p node c south r ⌝ }
 {
     let count = wide(nodes[node]);

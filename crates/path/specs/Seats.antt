@@ -5,7 +5,7 @@ use mathlib.Core.List.{List, _++_, append-assoc}
 use Prim.Native.Nat.{ℕ, zero, suc, _+_, _-_, _*_, _/_, _^_, _≤_, _<_}
 use native.Mathlib.Numerals.{add-one}
 use native.Mathlib.Omega.{arith}
-use lib.ListN.{length, getD, take, drop, length-append}
+use lib.ListN.{length, getD, take, drop, length-append, length-take, length-drop}
 use lib.Seq.{take-at, drop-at}
 use Rattle.algebra.specs.Tests.{no-path}
 use Rattle.definitions.specs.declared.Point.{Point}
@@ -91,6 +91,9 @@ cut {table} {list} {f} l = record {
   where
     less : f + length list - f ≡ length list
     less = omega arith
+
+pub cut-length : {table list : List ℕ} {from count : ℕ} → Cut table list from count → length list ≡ count
+cut-length c = sym (ap length (c .list-is)) ∙ simp (length-take, length-drop) (omega (arith, c .within))
 
 module _ {nodes listings index : List ℕ} {n f : ℕ} where
   leaf-at : {slots : List ℕ} → Seat nodes listings index (leaf slots) n f → Cut listings slots (getD index (4 * n) 0) (getD nodes n 0)
