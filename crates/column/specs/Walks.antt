@@ -28,13 +28,15 @@ use Rattle.meaning.specs.Walk.{reached, reached-best, leaf-seen}
 use Rattle.meaning.specs.Locate.{firstOn, own-first, first→, answer-first, none-first}
 use Rattle.tables.specs.Rows.{OnMap}
 use Rattle.walk.specs.Index.{Entries}
-use Rattle.scan.specs.Asked.{none, NoneOn, BestOn}
+use Rattle.scan.specs.declared.Scan.{Scan}
+use Rattle.scan.specs.declared.Scan.the-variants as Scanned
+use Rattle.scan.specs.Asked.{none, NoneOn, ScanIs, BestOn}
 use Rattle.scan.specs.Told.{live-on-map}
 use Rattle.path.specs.declared.Spot.{Spot}
 use Rattle.path.specs.Placed.{Placed}
 use Rattle.path.specs.Asked.{Held}
 use Rattle.path.specs.Ways.{OnPath, Aside}
-use Rattle.column.specs.Asked.{AtLeaf, Down, PutBy, ground, next, Column, TakenUp}
+use Rattle.column.specs.Asked.{AtLeaf, Down, LeafTold, PutBy, ground, next, Column, TakenUp}
 
 -- ---- A leaf
 
@@ -46,21 +48,27 @@ module _ {lines nodes listings index : List ℕ} {d : Bool} {p : Point} {at : Sp
   list = listed (liveLines lines) k
 
   -- a line through p
-  pub leaf-on : {s : ℕ} → firstOn lines p list ≡ At s → onLine s ≡ answering lines p
-  leaf-on {s} e = go (h .here)
+  pub leaf-on : {s : ℕ} {r : Scan} → LeafTold lines nodes listings index p (at .node) c d r → r ≡ Scanned.On s → onLine s ≡ answering lines p
+  leaf-on {s} t f = go (h .here)
     where
+      e : firstOn lines p list ≡ At s
+      e = subst (λ (x : Scan). ScanIs lines d p c list x) f (t .told (h .placed))
+
       go : (inside k p ≡ true) ⊎ (those (on p) (liveLines lines) ≡ []) → onLine s ≡ answering lines p
       go (inl i) = answer-first lines p (sym (own-first lines p k i) ∙ e)
       go (inr i) = let f = first→ lines p list e in absurd (none-through lines p i s (listed→ lines k s (f .0) .0) (through-is p (lineAt lines s) .0 (f .1)))
 
   -- none: the best line as far as the leaf's other side
-  pub leaf-down : {e : Found} → NoneOn lines d p c list e → Down lines d p (far d k) e
-  leaf-down {e} n = record {
+  pub leaf-down : {e : Found} {r : Scan} → LeafTold lines nodes listings index p (at .node) c d r → r ≡ Scanned.Best e → Down lines d p (far d k) e
+  leaf-down {e} t f = record {
     seen = subst (λ (x : Found). Seen lines d p (far d k) x) (sym (n .best)) (leaf-seen lines d p (h .placed .chart .map .sound .apart) k c (h .placed .from-west) (h .placed .to-east) (h .seen));
     none-on = go (h .here);
     on-way = n .on-way;
   }
     where
+      n : NoneOn lines d p c list e
+      n = subst (λ (x : Scan). ScanIs lines d p c list x) f (t .told (h .placed))
+
       go : (inside k p ≡ true) ⊎ (those (on p) (liveLines lines) ≡ []) → those (on p) (liveLines lines) ≡ []
       go (inl i) = none-first lines p (sym (own-first lines p k i) ∙ n .none-on)
       go (inr i) = i

@@ -5,7 +5,7 @@ use Rattle.definitions.specs.Tree.{Rule}
 use Rattle.definitions.specs.Tables.{Tables, lengthsFit, sound}
 use Rattle.meaning.specs.Sound.{sound→}
 use Rattle.tables.specs.Lent.{lines-short, nodes-short, listings-short}
-use Rattle.column.specs.Asked.{Mapped}
+use Rattle.path.specs.Placed.{Mapped}
 
 pub mapped : (rule : Rule) (t : Tables) → lengthsFit t ≡ true → sound rule t ≡ true → Mapped (t .lines) (t .nodes) (t .listings)
 mapped rule t e s =

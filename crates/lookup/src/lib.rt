@@ -22,9 +22,9 @@ ghost use Prim.Native.Nat.{_+_, _*_, min};
 ghost use lib.ListN.{length};
 ghost use Rattle.definitions.specs.Lookup.{answerAt, answerTo, answersTo};
 ghost use Rattle.geometry.specs.Range.{End};
-ghost use Rattle.column.specs.Asked.{Mapped};
 ghost use Rattle.scan.specs.Asked.{Plain};
-ghost use Rattle.lookup.specs.Asked.{Ready};
+ghost use Rattle.path.specs.Placed.{Mapped};
+ghost use Rattle.lookup.specs.Asked.{Ready, Room, Counting, ToldBy, FoundIs, WalkAsked};
 
 // Walks are paid for, so that a list of points takes at most about a third longer than plain searches of all live lines would, and
 // half on small maps made against it.
@@ -74,7 +74,7 @@ fn walked(some: bool, answer: u32, live: &[u16], left: usize) -> Finding
 
 // A walk that ends with the best line.
 fn walked_to(lines: &[u16], best: Found, live: &[u16], left: usize, south: bool) -> Finding
-    requires { ⌜ BestFound (now lines) south best ⌝ }
+    requires { ⌜ Counting (now lines) south best ⌝ }
     ensures { λ r. ⌜ ToldBy (now (lines .entry)) south best (r .some) (r .answer) ⌝ }
 {
     match best {
@@ -131,10 +131,13 @@ fn walk_column(
     paid: usize,
     south: bool,
 ) -> Finding
+    requires { ⌜ WalkAsked (now lines) (now nodes) (now listings) (now index) (now live) p (now path) (now later) own ⌝ }
+    ensures { λ r. ⌜ FoundIs (now (lines .entry)) south p (r .some) (r .answer) ⌝ }
 {
+    let block = own.block;
     let mut at = Spot {
         node: own.node,
-        block: own.block,
+        block,
         by: 0,
     };
     let mut level = own.by;
@@ -182,6 +185,8 @@ fn walk_both(
     later: &mut [u16],
     paid: usize,
 ) -> Reply
+    requires { ⌜ Ready (now lines) (now nodes) (now listings) (now index) (now live) × End p × Room (now path) (now later) ⌝ }
+    ensures { λ r. ⌜ r .answer ≡ answerAt (now (lines .entry)) p ⌝ }
 {
     let own = own_leaf(nodes, index, path, p);
     let mut south = true;
@@ -201,6 +206,8 @@ fn walk_both(
 
 // The answer by plain searches, south and then north.
 fn search_both(lines: &[u16], live: &[u16], p: Point, left: usize) -> Reply
+    requires { ⌜ Plain (now lines) (now live) × End p ⌝ }
+    ensures { λ r. ⌜ r .answer ≡ answerAt (now (lines .entry)) p ⌝ }
 {
     let below = search_plainly(lines, live, p, left, true);
     if below.some {
@@ -228,6 +235,8 @@ fn answer_at(
     later: &mut [u16],
     left: usize,
 ) -> Reply
+    requires { ⌜ Ready (now lines) (now nodes) (now listings) (now index) (now live) × End p × Room (now path) (now later) ⌝ }
+    ensures { λ r. ⌜ r .answer ≡ answerAt (now (lines .entry)) p ⌝ }
 {
     if left <= START {
         return search_both(lines, live, p, left);
@@ -258,7 +267,7 @@ fn answer_to(
     later: &mut [u16],
     left: usize,
 ) -> Reply
-    requires { ⌜ Ready (now lines) (now nodes) (now listings) (now index) (now live) ⌝ }
+    requires { ⌜ Ready (now lines) (now nodes) (now listings) (now index) (now live) × Room (now path) (now later) ⌝ }
     ensures { λ r. ⌜ r .answer ≡ answerTo (now (lines .entry)) x y ⌝ }
 {
     if on_grid(x) & on_grid(y) {
@@ -292,7 +301,7 @@ fn answer_each(
     path: &mut [u16],
     later: &mut [u16],
 )
-    requires { ⌜ Ready (now lines) (now nodes) (now listings) (now index) (now live) × (length (now points) ≡ 2 * length (now answers)) ⌝ }
+    requires { ⌜ Ready (now lines) (now nodes) (now listings) (now index) (now live) × (length (now points) ≡ 2 * length (now answers)) × Room (now path) (now later) ⌝ }
     ensures { λ _. ⌜ now (answers .exit) ≡ answersTo (now (lines .entry)) (now (points .entry)) ⌝ }
 {
     let mut at: usize = 0;
