@@ -1,9 +1,11 @@
 -- What is found on a way answers, and where nothing is found on both ways the answer is 0.
 use mathlib.Core.Path.{_≡_, refl, sym, ap, _∙_}
-use mathlib.Core.Bool.{Bool, true, false}
+use mathlib.Core.Bool.{Bool, true, false, not, _||_}
 use mathlib.Core.List.{List}
-use Prim.Native.Nat.{ℕ, _+_}
+use Prim.Native.Nat.{ℕ, _+_, _<_}
+use native.Mathlib.Omega.{arith}
 use Rattle.algebra.specs.Tests.{no-path}
+use Rattle.algebra.specs.Words.{if_then_else_}
 use Rattle.definitions.specs.declared.Point.{Point}
 use Rattle.definitions.specs.Tables.{noneConflict}
 use Rattle.definitions.specs.Lookup.{onLine, answering, answerOf, answerAt}
@@ -46,3 +48,22 @@ module _ {lines : List ℕ} {p : Point} where
         go : (b : Bool) → some ≡ b → answer ≡ answerAt lines p
         go true e = f .answers e t
         go false e = found-neither t (f .nothing e)
+
+    -- the two ways one after the other: the first that finds a line answers, or the second
+    pub both-told : (d some : Bool) {answer : ℕ} → Turn lines p d → FoundIs lines d p some answer → some || not d ≡ true → answer ≡ answerAt lines p
+    both-told true true t f e = f .answers refl t
+    both-told true false t f e = no-path e
+    both-told false some t f e = found-either f t
+
+  -- north is asked once, where nothing is found south
+  pub then-north : (d some : Bool) {answer : ℕ} → FoundIs lines d p some answer → some || not d ≡ false → Turn lines p false
+  then-north true true f e = no-path (sym e)
+  then-north true false f e = none-below (f .nothing refl .0)
+  then-north false true f e = no-path (sym e)
+  then-north false false f e = no-path (sym e)
+
+-- so the ways left are fewer
+pub ways-left : (d some : Bool) → some || not d ≡ false → 0 < (if d then 1 else 0)
+ways-left true some e = omega arith
+ways-left false true e = no-path (sym e)
+ways-left false false e = no-path (sym e)

@@ -192,7 +192,19 @@ fn walk_both(
     let mut south = true;
     let mut left = paid;
     loop {
-        let f = walk_column(lines, nodes, listings, index, live, p, path, later, own, left, south);
+        let f = walk_column(
+            lines,
+            nodes,
+            listings,
+            index,
+            live,
+            p,
+            path,
+            later,
+            own,
+            left,
+            south,
+        );
         if f.some | !south {
             return Reply {
                 answer: f.answer,
