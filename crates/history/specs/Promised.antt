@@ -8,7 +8,7 @@ use Prim.Native.Nat.{ℕ, _+_, _*_, _/_, _%_, _≤_, _<_}
 use native.Mathlib.Omega.{arith}
 use lib.Dec.{eqb}
 use lib.ListN.{length, take, getD, replicate}
-use Rattle.algebra.specs.Words.{Rising, those, every, padded, if_then_else_}
+use Rattle.algebra.specs.Words.{Rising, those, every, padded}
 use Rattle.definitions.specs.declared.Answer.{Answer}
 use Rattle.definitions.specs.declared.Answer.the-variants.{Done, Lengths, Damaged, OffGrid, NoLength, Conflict, NoSlot, NoRoom, UnknownHandle, BadWindow, ListShort}
 use Rattle.definitions.specs.declared.Given.{Given}
@@ -20,10 +20,10 @@ use Rattle.definitions.specs.Shape.{Line, Area, Block, wholeMap, gridPoint, mee
 use Rattle.definitions.specs.Tree.{Rule, Tree, simple, baseRule, tree, listed, nodesOf, listingsOf}
 use Rattle.definitions.specs.Tables.{Tables, lengthsFit, generation, slotsOf, lineAt, liveSlots, liveLines, onGrid, slotSound, noneConflict, sound}
 use Rattle.definitions.specs.Calls.{numberOf, refusalOf, detailOf, kindNumber, cleared, startOf, insertOf, deleteOf, givenLine, known}
-use Rattle.definitions.specs.Lookup.{answerAt, answerTo, locateOf, showOf}
+use Rattle.definitions.specs.Lookup.{Answering, answering, answerOf, answerTo, locateOf, showOf}
 use Rattle.definitions.specs.Window.{areaIn, slotsIn, windowOf}
 use Rattle.definitions.specs.History.{Call, afterAll}
-use Rattle.definitions.specs.Meaning.{Spot, OnLine, AtEnd, InArea, InBlock, In, MeetsArea, Meets, MeetsWindow, InWindow, Conflicts, OnlyShared, TwoShared, SameEnds, KindIs, Criteria, IsTree, LeafAt, ListedFrom, Stored, Tabled, Live, SoundMap, AnswersTo}
+use Rattle.definitions.specs.Meaning.{Spot, OnLine, AtEnd, InArea, InBlock, In, MeetsArea, Meets, MeetsWindow, InWindow, Conflicts, OnlyShared, TwoShared, SameEnds, KindIs, Criteria, IsTree, LeafAt, ListedFrom, Stored, Tabled, Live, SoundMap, Answers, Tells, AnswersTo}
 use Rattle.plane.specs.Crossing.{Proper, conflict-iff}
 use Rattle.plane.specs.Kinds.{kind-iff, one-kind, conflict-kinds}
 use Rattle.plane.specs.Meeting.{meets-area-iff, meets-iff}
@@ -32,10 +32,10 @@ use Rattle.meaning.specs.Apart.{leaf-lists, leaves-exact}
 use Rattle.meaning.specs.Everywhere.{in-a-leaf}
 use Rattle.meaning.specs.Fair.{Fair, Sub}
 use Rattle.meaning.specs.Leaves.{LeafApart, share-a-leaf}
-use Rattle.meaning.specs.Locate.{looked, answerBy}
+use Rattle.meaning.specs.Answering.{tells-iff, answering-iff}
 use Rattle.meaning.specs.Means.{BySlot, simple-means, tree-is, tree-only}
 use Rattle.meaning.specs.OneLeaf.{one-leaf}
-use Rattle.meaning.specs.Plain.{plain, plain-answers, locate-iff, locate-walk}
+use Rattle.meaning.specs.Plain.{plain, plain-answers, locate-iff}
 use Rattle.meaning.specs.Rules.{base-fair, fewer}
 use Rattle.meaning.specs.SoundMeans.{sound-means}
 use Rattle.meaning.specs.Window.{window-iff}
@@ -320,10 +320,13 @@ the-rule-is-fair = base-fair
 the-answer : (rule : Rule) (t : Tables) → sound rule t ≡ true → (x y n : ℕ) → (n ≡ answerTo (t .lines) x y) ↔ AnswersTo (t .lines) x y n
 the-answer = locate-iff
 
-the-walk : (rule : Rule) (t : Tables) → sound rule t ≡ true → (x y : ℕ) → answerTo (t .lines) x y ≡ (if onGrid x && onGrid y then answerBy (t .lines) (looked rule (t .lines) (gridPoint x y)) else 4294967295)
-the-walk = locate-walk
+the-line : (lines : List ℕ) (p : Point) → noneConflict lines ≡ true → (a : Answering) → (a ≡ answering lines p) ↔ Answers lines p a
+the-line = answering-iff
 
-the-search : (lines : List ℕ) (p : Point) → noneConflict lines ≡ true → answerAt lines p ≡ answerBy lines (plain lines p)
+the-number : (lines : List ℕ) (a : Answering) (n : ℕ) → (n ≡ answerOf lines a) ↔ Tells lines a n
+the-number = tells-iff
+
+the-search : (lines : List ℕ) (p : Point) → noneConflict lines ≡ true → answering lines p ≡ plain lines p
 the-search = plain-answers
 
 every-point : (rule : Rule) (lines : List Line) (p : Spot) → InBlock p wholeMap → (j : Block) × (list : List ℕ) × LeafAt wholeMap (tree rule lines) j list × InBlock p j

@@ -116,5 +116,5 @@ c-window-owes : c-window.Post ≡ λ κs a r e. Lists r (now (e .1 .1 .1 .1 .1 .
     (record { west = a .1 .1 .1 .0; south = a .1 .1 .1 .1 .0; east = a .1 .1 .1 .1 .1 .0; north = a .1 .1 .1 .1 .1 .1 .0 }) (now (a .1 .1 .1 .1 .1 .1 .1 .0)))
 c-window-owes = refl
 
-c-version-owes : c-version.Post ≡ λ κs a r e. r ≡ 4000
+c-version-owes : c-version.Post ≡ λ κs a r e. r ≡ 5000
 c-version-owes = refl

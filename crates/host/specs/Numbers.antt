@@ -41,6 +41,6 @@ Answers r answers y = (record { number = r; answers = answers }) ≡ counted y
 abbrev pub Lists : ℕ → List ℕ → Windowed → Type 0
 Lists r slots y = (record { number = r; slots = slots }) ≡ listed y
 
--- version 0.4.0, as major, minor and patch
+-- version 0.5.0, as major, minor and patch
 abbrev pub version : ℕ
-version = 0 * 1000000 + 4 * 1000 + 0
+version = 0 * 1000000 + 5 * 1000 + 0

@@ -119,5 +119,5 @@ pub extern "C" fn boundary_map_window(
 pub extern "C" fn boundary_map_version() -> u32
     ensures { λ r. ⌜ r ≡ version ⌝ }
 {
-    4000
+    5000
 }
