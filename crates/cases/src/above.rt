@@ -64,18 +64,7 @@ fn below_first() {
 // A short line far south; past its east end, beside it and over it the line along the north answers, and under that one's own east
 // end none.
 fn far_north() {
-    let points = [
-        383u16,
-        381,
-        384,
-        381,
-        382,
-        0,
-        16383,
-        0,
-        383,
-        384,
-    ];
+    let points = [383u16, 381, 384, 381, 382, 0, 16383, 0, 383, 384];
     let mut answers = [0u32; 5];
     let b = case(b"several leaves north");
     let b = labelled(b, 0, 16383, 16383, 16383, 0, 6);

@@ -2,7 +2,7 @@
 use mathlib.Core.Path.{_≡_, refl, sym, ap, _∙_, subst}
 use mathlib.Core.Bool.{Bool, true, false, not}
 use mathlib.Core.List.{List}
-use Prim.Native.Nat.{ℕ, suc, _+_, _-_, _*_, _≤_, _<_}
+use Prim.Native.Nat.{ℕ, _+_, _-_, _*_, _≤_, _<_}
 use native.Mathlib.Omega.{arith}
 use lib.ListN.{length, getD, take, drop}
 use Rattle.definitions.specs.declared.Half.{Half}
@@ -23,9 +23,8 @@ use Rattle.scan.specs.declared.Scan.{Scan}
 use Rattle.scan.specs.Asked.{Scannable, ScanIs}
 use Rattle.scan.specs.Told.{live-on-map}
 use Rattle.path.specs.declared.Spot.{Spot}
-use Rattle.path.specs.Placed.{Placed, placed-there}
-use Rattle.path.specs.Asked.{SonEntry, of-upper, of-lower, SonIs, is-upper, is-lower, Stacked, Entered}
-use Rattle.path.specs.Seats.{leaf-cut, Halves, halves, above-ground}
+use Rattle.path.specs.Asked.{SonIs, is-upper, is-lower, Stacked, Entered}
+use Rattle.path.specs.Seats.{leaf-cut, Halves, halves, above-ground, Son, son-at, entered, entries-kept}
 use Rattle.column.specs.Asked.{PutBy, ground, next, Column, GoneOn, Walking, Came, LeafAsked, LeafTold}
 
 -- ---- What is put by is kept by writes after it
@@ -34,14 +33,7 @@ module _ {lines nodes listings index later later′ : List ℕ} {d : Bool} {p : 
   put-kept : {i S T : ℕ} → PutBy lines nodes listings index later d p i S T → ((k : ℕ) → k < 4 * i → getD later′ k 0 ≡ getD later k 0) → PutBy lines nodes listings index later′ d p i S T
   put-kept (ground e) same = ground e
   put-kept (next {i = i} e q f n r) same =
-      next
-      (record {
-        first = same (4 * i) (omega arith) ∙ e .first;
-        second = same (4 * i + 1) (omega arith) ∙ e .second;
-        third = same (4 * i + 2) (omega arith) ∙ e .third;
-        fourth = same (4 * i + 3) (omega arith) ∙ e .fourth;
-      })
-      q f n (put-kept r (λ k h. same k (omega arith)))
+      next (entries-kept e same) q f n (put-kept r (λ k h. same k (omega arith)))
 
 -- ---- Into a block
 
@@ -55,42 +47,19 @@ order : (d : Bool) {j a b m n : Block} → Stacked j a b → SonIs a b d m → S
 order true t (is-upper e) (is-lower f) = record { begins = ap (near true) e ∙ t .top; meets = ap (near true) f ∙ t .seam ∙ sym (ap (far true) e); ends = ap (far true) f ∙ t .bottom }
 order false t (is-lower e) (is-upper f) = record { begins = ap (near false) e ∙ t .bottom; meets = ap (near false) f ∙ sym (t .seam) ∙ sym (ap (far false) e); ends = ap (far false) f ∙ t .top }
 
--- a son with its node, one level down
-record Son (lines nodes listings index : List ℕ) (p : Point) (level side n : ℕ) (k : Block) : Type 0 where
-  placed : Placed lines nodes listings index p n k
-  level-is : placed .level + 1 ≡ level
-  less : k .side < side
-
 module _ {lines nodes listings index later : List ℕ} {d : Bool} {p : Point} {at : Spot} {T : ℕ} (h : Column lines nodes listings index later d p at T) where
-  -- a divided block has room for what is put by
-  few-by : getD nodes (at .node) 0 ≡ 65535 → at .by ≤ 13
-  few-by e = omega (arith, h .few, above-ground (h .placed) e)
-
   pub enters : getD nodes (at .node) 0 ≡ 65535 → length later ≡ 64 → Entered index later at
-  enters e l =
-      let q = h .placed in
-      record {
-        entries = omega (arith, placed-there q, q .chart .room);
-        room = omega (arith, few-by e);
-        few-nodes = omega (arith, placed-there q, q .chart .map .few-nodes);
-        few = omega (arith, few-by e);
-        east-in = omega (arith, q .east-in);
-        north-in = omega (arith, q .north-in);
-      }
+  enters e l = entered (h .placed) (omega (arith, h .few, above-ground (h .placed) e)) l
 
   module _ {later′ : List ℕ} {r : Spot} (e : getD nodes (at .node) 0 ≡ 65535) (g : GoneOn index p at d later later′ r) where
     abbrev two : Halves (h .placed) (g .which) (g .above) (g .below)
     two = halves (h .placed) e (g .strip)
 
-    son : {up : Bool} {n m : ℕ} {k : Block} → SonEntry (4 * at .node + g .which) up n → m ≡ getD index n 0 → SonIs (g .above) (g .below) up k → Son lines nodes listings index p (h .placed .level) (at .block .side) m k
-    son (of-upper x) y (is-upper z) = rw (y, x, z) (record { placed = two .upper; level-is = two .level .0; less = two .less .0 })
-    son (of-lower x) y (is-lower z) = rw (y, x, z) (record { placed = two .lower; level-is = two .level .1; less = two .less .1 })
-
     abbrev first : Son lines nodes listings index p (h .placed .level) (at .block .side) (r .node) (blockOf (r .block))
-    first = son (g .entry) (g .node-is) (g .block-is)
+    first = son-at two (g .entry) (g .node-is) (g .block-is)
 
     abbrev other : Son lines nodes listings index p (h .placed .level) (at .block .side) (getD index (g .after) 0) (g .last)
-    other = son (g .after-is) refl (g .last-is)
+    other = son-at two (g .after-is) refl (g .last-is)
 
     abbrev way : Order d (blockOf (at .block)) (blockOf (r .block)) (g .last)
     way = order d (two .stacked) (g .block-is) (g .last-is)

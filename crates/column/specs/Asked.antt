@@ -1,9 +1,9 @@
 -- What the functions of the walk of a column ask, and what their answers say. South (true) or north is the way from the point.
 use mathlib.Core.Path.{_≡_}
 use mathlib.Core.Logic.{_⊎_}
-use mathlib.Core.Bool.{Bool, true, false, not}
+use mathlib.Core.Bool.{Bool, true, not}
 use mathlib.Core.List.{List, []}
-use Prim.Native.Nat.{ℕ, suc, _+_, _*_, _≤_, _<_}
+use Prim.Native.Nat.{ℕ, suc, _+_, _*_, _≤_}
 use lib.ListN.{length, getD}
 use Rattle.algebra.specs.Words.{those}
 use Rattle.definitions.specs.declared.Point.{Point}

@@ -1,28 +1,26 @@
 -- For callers: a walk begins at the leaf that holds the point, each leaf adds to what is seen, the next block begins where that ends, and the
 -- last ends at the map's own side.
-use mathlib.Core.Path.{_≡_, refl, sym, ap, _∙_, subst}
+use mathlib.Core.Path.{_≡_, sym, ap, _∙_, subst}
 use mathlib.Core.Logic.{_⊎_, inl, inr}
 use mathlib.Core.Bool.{Bool, true, false}
 use mathlib.Core.List.{List, []}
-use Prim.Native.Nat.{ℕ, suc, _+_, _≤_, _<_}
+use Prim.Native.Nat.{ℕ, suc, _+_, _≤_}
 use native.Mathlib.Omega.{arith}
 use lib.Dec.{ltb}
-use lib.ListN.{length, getD}
+use lib.ListN.{getD}
 use borrow.Author.Tests.{le-leb}
 use Rattle.algebra.specs.Words.{those, every, if_then_else_}
 use Rattle.algebra.specs.Tests.{both←}
 use Rattle.definitions.specs.declared.Point.{Point}
-use Rattle.definitions.specs.Shape.{Block, north, inside, on, wholeMap}
+use Rattle.definitions.specs.Shape.{Block, inside, on, wholeMap}
 use Rattle.definitions.specs.Tree.{listed}
-use Rattle.definitions.specs.Tables.{slotsOf, slotSound, lineAt, liveLines, noneConflict}
+use Rattle.definitions.specs.Tables.{slotsOf, slotSound, lineAt, liveLines}
 use Rattle.definitions.specs.Lookup.{onLine, answering}
 use Rattle.geometry.specs.Means.{blockOf}
 use Rattle.geometry.specs.Range.{End}
 use Rattle.meaning.specs.declared.Found.{Found}
 use Rattle.meaning.specs.declared.Found.the-variants.{Nothing, At}
-use Rattle.meaning.specs.Ahead.{counts, aheadByTurns}
 use Rattle.meaning.specs.Answering.{through-is, none-through}
-use Rattle.meaning.specs.Best.{scan}
 use Rattle.meaning.specs.Column.{near, far, Seen, BestOf, SouthOf, listed→, seen-start, seen-foot, seen-head}
 use Rattle.meaning.specs.Walk.{reached, reached-best, leaf-seen}
 use Rattle.meaning.specs.Locate.{firstOn, own-first, first→, answer-first, none-first}
@@ -35,7 +33,7 @@ use Rattle.scan.specs.Told.{live-on-map}
 use Rattle.path.specs.declared.Spot.{Spot}
 use Rattle.path.specs.Placed.{Placed}
 use Rattle.path.specs.Asked.{Held}
-use Rattle.path.specs.Ways.{OnPath, Aside}
+use Rattle.path.specs.Ways.{Aside}
 use Rattle.column.specs.Asked.{AtLeaf, Down, LeafTold, PutBy, ground, next, Column, TakenUp}
 
 -- ---- A leaf

@@ -2,7 +2,7 @@
 -- the theorem. Nothing depends on this file; a theorem or record that is weakened elsewhere is refused here.
 use mathlib.Core.Path.{_≡_, refl}
 use mathlib.Core.Logic.{_⊎_, _↔_}
-use mathlib.Core.Bool.{true, not, _&&_}
+use mathlib.Core.Bool.{true, not}
 use mathlib.Core.List.{List, [], _∷_, _++_, List·Memᴰ}
 use Prim.Native.Nat.{ℕ, _+_, _*_, _/_, _%_, _≤_, _<_}
 use native.Mathlib.Omega.{arith}
@@ -18,7 +18,7 @@ use Rattle.definitions.specs.declared.Point.{Point}
 use Rattle.definitions.specs.declared.Window.{Window}
 use Rattle.definitions.specs.Shape.{Line, Area, Block, wholeMap, gridPoint, meetsArea, meets, conflict, kindOf}
 use Rattle.definitions.specs.Tree.{Rule, Tree, simple, baseRule, tree, listed, nodesOf, listingsOf}
-use Rattle.definitions.specs.Tables.{Tables, lengthsFit, generation, slotsOf, lineAt, liveSlots, liveLines, onGrid, slotSound, noneConflict, sound}
+use Rattle.definitions.specs.Tables.{Tables, lengthsFit, generation, slotsOf, lineAt, liveSlots, liveLines, slotSound, noneConflict, sound}
 use Rattle.definitions.specs.Calls.{numberOf, refusalOf, detailOf, kindNumber, cleared, startOf, insertOf, deleteOf, givenLine, known}
 use Rattle.definitions.specs.Lookup.{Answering, answering, answerOf, answerTo, locateOf, showOf}
 use Rattle.definitions.specs.Window.{areaIn, slotsIn, windowOf}

@@ -13,7 +13,6 @@ use Rattle.meaning.specs.declared.Found.{Found}
 use Rattle.meaning.specs.declared.Found.the-variants.{Nothing, At}
 use Rattle.meaning.specs.Column.{found-below, found-above, found-none}
 use Rattle.scan.specs.Asked.{labelBy, Plain, BestOn}
-use Rattle.path.specs.Placed.{Charted}
 use Rattle.lookup.specs.Asked.{Ready, ToldBy, Turn, at-once, none-below, FoundIs}
 
 pub ready-plain : {lines nodes listings index live : List ℕ} → Ready lines nodes listings index live → Plain lines live

@@ -2,7 +2,7 @@
 use mathlib.Core.Path.{_≡_, refl, sym, ap, _∙_, subst}
 use mathlib.Core.Bool.{Bool}
 use mathlib.Core.List.{List}
-use Prim.Native.Nat.{ℕ, suc, _+_, _*_, _≤_, _<_}
+use Prim.Native.Nat.{ℕ, suc, _≤_}
 use native.Mathlib.Omega.{arith}
 use lib.ListN.{length, getD}
 use Rattle.definitions.specs.declared.Point.{Point}
@@ -15,7 +15,7 @@ use Rattle.meaning.specs.Column.{near, far}
 use Rattle.path.specs.declared.Spot.{Spot}
 use Rattle.path.specs.Placed.{Placed}
 use Rattle.path.specs.Asked.{Held, TurnedOff, TurnsOff, Beside}
-use Rattle.path.specs.Ways.{OnPath, turned-up, at-top, Aside, turned-off, turns-off}
+use Rattle.path.specs.Ways.{OnPath, turned-up, at-top, turned-off, turns-off}
 use Rattle.column.specs.Asked.{AtLeaf, Down, ground, Column, Walking, GoneDown, TakenUp}
 use Rattle.column.specs.Walks.{at-own, at-next, grounded, taken, aside-column}
 

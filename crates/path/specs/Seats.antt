@@ -7,17 +7,18 @@ use native.Mathlib.Numerals.{add-one}
 use native.Mathlib.Omega.{arith}
 use lib.ListN.{length, getD, take, drop, length-append, length-take, length-drop}
 use lib.Seq.{take-at, drop-at}
-use Rattle.algebra.specs.Tests.{no-path}
 use Rattle.definitions.specs.declared.Point.{Point}
-use Rattle.definitions.specs.Shape.{Line, Block, north}
+use Rattle.definitions.specs.Shape.{Line, Block}
 use Rattle.definitions.specs.Tree.{Rule, Tree, leaf, divided, block, listed, treeBy, nodesOf, listingsOf}
 use Rattle.definitions.specs.Tables.{liveLines}
 use Rattle.plane.specs.Blocks.{double, half-power, some-power}
 use Rattle.meaning.specs.Rules.{by-leaf, by-divided, sonsBy}
-use Rattle.walk.specs.Index.{afterNodes, afterListings, neFirst, swFirst, seFirst, Stands, leaf-stands, sons-stand, Indexed, leaf-indexed, sons-indexed}
+use Rattle.walk.specs.Index.{afterNodes, afterListings, neFirst, swFirst, seFirst, Entries, Stands, leaf-stands, sons-stand, Indexed, leaf-indexed, sons-indexed}
 use Rattle.walk.specs.Placing.{divided-nodes, divided-listings}
-use Rattle.path.specs.Placed.{Part, Seat, Placed}
-use Rattle.path.specs.Asked.{StripOver, in-west, in-east, SonEntry, of-upper, of-lower, Stacked}
+use Rattle.geometry.specs.Means.{blockOf}
+use Rattle.path.specs.declared.Spot.{Spot}
+use Rattle.path.specs.Placed.{Part, Seat, Placed, placed-there}
+use Rattle.path.specs.Asked.{StripOver, in-west, in-east, SonEntry, of-upper, of-lower, SonIs, is-upper, is-lower, Entered, Stacked}
 
 -- ---- A part of a table
 
@@ -192,3 +193,38 @@ strip-few (in-east x e f) = omega arith
 pub entry-most : {entry son : ℕ} {upper : Bool} → SonEntry entry upper son → son ≤ entry + 2
 entry-most (of-upper e) = omega arith
 entry-most (of-lower e) = omega arith
+
+-- ---- A son gone to
+
+-- with its node, one level below a block of this level and side
+pub record Son (lines nodes listings index : List ℕ) (p : Point) (level side n : ℕ) (k : Block) : Type 0 where
+  pub placed : Placed lines nodes listings index p n k
+  pub level-is : placed .level + 1 ≡ level
+  pub less : k .side < side
+
+pub son-at : {lines nodes listings index : List ℕ} {p : Point} {node q : ℕ} {k a b : Block} {h : Placed lines nodes listings index p node k} → Halves h q a b →
+    {up : Bool} {n m : ℕ} {j : Block} → SonEntry (4 * node + q) up n → m ≡ getD index n 0 → SonIs a b up j → Son lines nodes listings index p (h .level) (k .side) m j
+son-at two (of-upper x) y (is-upper z) = rw (y, x, z) (record { placed = two .upper; level-is = two .level .0; less = two .less .0 })
+son-at two (of-lower x) y (is-lower z) = rw (y, x, z) (record { placed = two .lower; level-is = two .level .1; less = two .less .1 })
+
+-- a divided block can be gone into where few places of the table are taken
+pub entered : {lines nodes listings index table : List ℕ} {p : Point} {at : Spot} → Placed lines nodes listings index p (at .node) (blockOf (at .block)) → at .by ≤ 13 → length table ≡ 64 → Entered index table at
+entered q f l =
+    record {
+      entries = omega (arith, placed-there q, q .chart .room);
+      room = omega arith;
+      few-nodes = omega (arith, placed-there q, q .chart .map .few-nodes);
+      few = omega arith;
+      east-in = omega (arith, q .east-in);
+      north-in = omega (arith, q .north-in);
+    }
+
+-- the entries of a place are kept by writes after it
+pub entries-kept : {s s′ : List ℕ} {i a b c d : ℕ} → Entries s i a b c d → ((k : ℕ) → k < 4 * suc i → getD s′ k 0 ≡ getD s k 0) → Entries s′ i a b c d
+entries-kept {i = i} e same =
+    record {
+      first = same (4 * i) (omega arith) ∙ e .first;
+      second = same (4 * i + 1) (omega arith) ∙ e .second;
+      third = same (4 * i + 2) (omega arith) ∙ e .third;
+      fourth = same (4 * i + 3) (omega arith) ∙ e .fourth;
+    }

@@ -3,17 +3,15 @@ use mathlib.Core.Path.{_≡_, refl, sym, ap, _∙_, subst}
 use mathlib.Core.Logic.{_⊎_, inl, inr}
 use mathlib.Core.Bool.{Bool, true, false, not}
 use mathlib.Core.List.{List}
-use Prim.Native.Nat.{ℕ, zero, suc, _+_, _-_, _*_, _≤_, _<_}
+use Prim.Native.Nat.{ℕ, suc, _+_, _-_, _*_, _≤_, _<_}
 use native.Mathlib.Omega.{arith}
 use lib.Dec.{ltb}
 use lib.ListN.{length, getD}
-use Rattle.algebra.specs.Tests.{no-path}
 use Rattle.definitions.specs.declared.Point.{Point}
 use Rattle.definitions.specs.Shape.{Block, north, wholeMap}
 use Rattle.geometry.specs.Means.{blockOf}
 use Rattle.plane.specs.Compare.{order}
 use Rattle.meaning.specs.Column.{near, far}
-use Rattle.walk.specs.Index.{Entries}
 use Rattle.path.specs.declared.Spot.{Spot}
 use Rattle.path.specs.Placed.{Placed}
 use Rattle.path.specs.Asked.{SonEntry, of-upper, of-lower, SonIs, is-upper, is-lower, Stacked, PathTo, top, step, wentUp, TurnedOff, TurnsOff, OtherSon, lower-one, upper-one, Beside}

@@ -16,14 +16,11 @@ use Rattle.meaning.specs.Best.{scan}
 use Rattle.meaning.specs.Locate.{firstOn}
 use Rattle.tables.specs.Rows.{OnMap}
 use Rattle.tables.specs.Sound.{on-map, sound-at}
-use Rattle.scan.specs.Asked.{OnWay, one, NoneOn, ScanIs, BestOn, SearchIs}
+use Rattle.scan.specs.Asked.{OnWay, one, NoneOn, BestOn, SearchIs}
 use Rattle.scan.specs.declared.Scan.{Scan}
 use Rattle.scan.specs.declared.Scan.the-variants as Scanned
 
 -- ---- What a scan tells
-
-pub scan-best : {lines slots : List ℕ} {d : Bool} {p : Point} {c e : Found} {r : Scan} → ScanIs lines d p c slots r → r ≡ Scanned.Best e → NoneOn lines d p c slots e
-scan-best {lines} {slots} {d} {p} {c} h e = subst (λ (x : Scan). ScanIs lines d p c slots x) e h
 
 pub search-best : {lines : List ℕ} {d : Bool} {p : Point} {c e : Found} {r : Scan} → SearchIs lines d p r → r ≡ Scanned.Best c → c ≡ e → BestOn lines d p e
 search-best {lines} {d} {p} h e f = subst (λ (x : Found). BestOn lines d p x) f (subst (λ (x : Scan). SearchIs lines d p x) e h)

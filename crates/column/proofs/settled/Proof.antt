@@ -1,5 +1,4 @@
 -- `column::settled` meets its contract.
-use mathlib.Core.Path.{refl, sym, ap, _∙_}
 use native.Mathlib.Omega.{arith}
 use Rattle.geometry.specs.Means.{blockOf}
 use Rattle.tables.specs.Rows.{line-ends}

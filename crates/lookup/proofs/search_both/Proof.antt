@@ -1,5 +1,4 @@
 -- `lookup::search_both` meets its contract: north is asked where nothing is found below.
-use mathlib.Core.Bool.{Bool, true, false}
 use Rattle.lookup.specs.Asked.{at-once, none-below}
 use Rattle.lookup.proofs.Found.{found-either}
 use borrow.Author.Needs.{needs}

@@ -1,5 +1,5 @@
 -- `lookup::search_plainly` meets its contract.
-use mathlib.Core.Path.{refl, _∙_}
+use mathlib.Core.Path.{refl}
 use Rattle.meaning.specs.declared.Found.the-variants.{Nothing, At}
 use Rattle.scan.specs.Told.{search-best, way-map}
 use Rattle.lookup.proofs.Found.{found-on, found-best}

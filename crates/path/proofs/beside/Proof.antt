@@ -1,5 +1,5 @@
 -- `path::beside` meets its contract, by the two ways.
-use mathlib.Core.Path.{refl, ap, _∙_, subst}
+use mathlib.Core.Path.{refl, subst}
 use mathlib.Core.Bool.{not}
 use native.Mathlib.Omega.{arith}
 use Prim.Native.Nat.{ℕ}

@@ -1,6 +1,5 @@
 -- `path::own_leaf` meets its contract. The invariant: the block holds p, at the end of the path; each turn halves the side.
 use mathlib.Core.Path.{_≡_, refl, sym, ap, _∙_}
-use mathlib.Core.List.{List}
 use Prim.Native.Nat.{ℕ}
 use native.Mathlib.Omega.{arith}
 use lib.ListN.{length, getD}

@@ -1,5 +1,5 @@
 -- `path::turn_off` meets its contract. The invariant: no level passed so far has its other son on the way.
-use mathlib.Core.Path.{_≡_, sym, ap, _∙_, subst}
+use mathlib.Core.Path.{_≡_, sym, _∙_, subst}
 use mathlib.Core.Logic.{_⊎_, inl, inr}
 use mathlib.Core.Bool.{Bool, not}
 use mathlib.Core.List.{List}
@@ -7,7 +7,7 @@ use Prim.Native.Nat.{ℕ, suc, _-_, _≤_, _<_}
 use native.Mathlib.Omega.{arith}
 use Rattle.definitions.specs.declared.Point.{Point}
 use Rattle.plane.specs.Compare.{order}
-use Rattle.path.specs.Asked.{wentUp, TurnedOff}
+use Rattle.path.specs.Asked.{wentUp}
 use Rattle.path.proofs.Steps.{alike, unlike}
 use borrow.Author.Needs.{needs}
 use Rattle.path.proofs.turn_off.Statement.{statement}
