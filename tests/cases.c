@@ -519,8 +519,8 @@ static void points_told(void)
     }
 }
 
-/* Lines with their labels, a point, and what it is answered. Each is asked with the lines in every order of slots, drawn as
- * they stand here and all turned over. A point is told the label of the nearest line that counts: below it, or, if there
+/* Lines with their labels, a point, and what it is answered. Each is asked with the lines in every order of slots, by turns drawn
+ * as they stand here and turned over. A point is told the label of the nearest line that counts: below it, or, if there
  * is none, above. Labels are odd above a line and even below it, so a label tells its line and its side. */
 
 enum { IN_VIEW = 3, FIRST_LINE = 65536 };
@@ -648,10 +648,10 @@ static void views_told(void)
 
     for (i = 0; i < sizeof views / sizeof *views; i++) {
         const struct view *v = &views[i];
-        size_t count = lines_in(v);
+        size_t count = lines_in(v), many = orders[count - 1].many;
 
-        for (k = 0; k < 2 * orders[count - 1].many; k++) {
-            size_t first = put_view(v, count, orders[count - 1].slot[k / 2], k % 2 == 1);
+        for (k = 0; k < many || k < 2; k++) {
+            size_t first = put_view(v, count, orders[count - 1].slot[k % many], k % 2 == 1);
             uint32_t wanted = v->answer + (v->answer == FIRST_LINE ? (uint32_t)first : 0);
 
             expect(locate(v->point[0], v->point[1]) == wanted, v->how);
