@@ -690,26 +690,26 @@ static void under_many_leaves(void)
     EXPECT(locate(899, 499) == 6);
 }
 
-/* Twelve fences in a row under a ditch that crosses the sheet. Each answers for the points under it and over it, from its west
+/* Five fences in a row under a ditch that crosses the sheet. Each answers for the points under it and over it, from its west
  * end on up to its east end; where none does, the ditch answers. */
 static void under_fences(void)
 {
     uint16_t i;
 
-    fresh(13, PLAIN_ROOM, PLAIN_ROOM);
-    for (i = 0; i < 12; i++)
-        EXPECT(insert_labelled((uint16_t)(1000 * i + 100), 2000, (uint16_t)(1000 * i + 900), (uint16_t)(2000 + 7 * i),
+    fresh(6, 1000, 1000);
+    for (i = 0; i < 5; i++)
+        EXPECT(insert_labelled((uint16_t)(3000 * i + 300), 2000, (uint16_t)(3000 * i + 2700), (uint16_t)(2000 + 7 * i),
                                (uint16_t)(2 * i + 1), (uint16_t)(2 * i + 2)) == i * (uint64_t)65536 + 1);
-    EXPECT(insert_labelled(0, 9000, 16383, 8000, 51, 52) == 12 * 65536 + 1);
-    for (i = 0; i < 12; i++) {
-        EXPECT(locate((uint16_t)(1000 * i + 500), 5) == 2 * (uint32_t)i + 2);
-        EXPECT(locate((uint16_t)(1000 * i + 500), 2100) == 2 * (uint32_t)i + 1);
-        EXPECT(locate((uint16_t)(1000 * i + 100), 1999) == 2 * (uint32_t)i + 2);
-        EXPECT(locate((uint16_t)(1000 * i + 900), 1999) == 52);
-        EXPECT(locate((uint16_t)(1000 * i + 950), 2100) == 52);
-        EXPECT(locate((uint16_t)(1000 * i + 99), 0) == 52);
+    EXPECT(insert_labelled(0, 9000, 16383, 8000, 51, 52) == 5 * 65536 + 1);
+    for (i = 0; i < 5; i++) {
+        EXPECT(locate((uint16_t)(3000 * i + 1500), 5) == 2 * (uint32_t)i + 2);
+        EXPECT(locate((uint16_t)(3000 * i + 1500), 2100) == 2 * (uint32_t)i + 1);
+        EXPECT(locate((uint16_t)(3000 * i + 300), 1999) == 2 * (uint32_t)i + 2);
+        EXPECT(locate((uint16_t)(3000 * i + 2700), 1999) == 52);
+        EXPECT(locate((uint16_t)(3000 * i + 2850), 2100) == 52);
+        EXPECT(locate((uint16_t)(3000 * i + 299), 0) == 52);
     }
-    EXPECT(locate(15000, 0) == 52);
+    EXPECT(locate(16382, 0) == 52);
     EXPECT(locate(16383, 0) == 0);
 }
 
