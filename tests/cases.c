@@ -1,10 +1,11 @@
 /* Document 01's numbers, P1 to P11 and the case that is only run, pairs of lines of each kind of conflict, points with lines
  * above them and below, windows, and the corners of the grid, over the C boundary. Each is written out here by hand and asked
- * twice: of the library, and of the plain search that the other tests rest on. */
+ * twice: of the library, and of the plain search that the other tests rest on. With FIRST=1 it ends at the first that fails. */
 #include "library.h"
 #include "plain.h"
 
 #include <stdio.h>
+#include <stdlib.h>
 #include <string.h>
 
 /* Both sides, one behind the other's signatures */
@@ -1062,18 +1063,19 @@ static const struct {
 
 int main(void)
 {
-    size_t i, k;
-    int passed = 0, failed = 0;
+    enum { CASES = sizeof cases / sizeof *cases };
+    const char *first = getenv("FIRST");
+    int passed = 0, failed = 0, most = first != NULL && *first == '1' ? 1 : 2 * CASES;
+    size_t i;
 
-    for (k = 0; k < 2; k++)
-        for (i = 0; i < sizeof cases / sizeof *cases; i++) {
-            side = &sides[k];
-            doing = cases[i].name;
-            wrong = 0;
-            cases[i].run();
-            passed += !wrong;
-            failed += wrong;
-        }
+    for (i = 0; i < 2 * CASES && failed < most; i++) {
+        side = &sides[i / CASES];
+        doing = cases[i % CASES].name;
+        wrong = 0;
+        cases[i % CASES].run();
+        passed += !wrong;
+        failed += wrong;
+    }
     printf("cases: %d passed, %d failed\n", passed, failed);
     return failed != 0;
 }
