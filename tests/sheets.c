@@ -105,6 +105,8 @@ void part_sheets(void)
                 ask_sheet();
             if (one_in(6))
                 delete_handle(live_handle());
+            if (one_in(12))
+                ask_window();
         }
         ask_sheet();
     }
