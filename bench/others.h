@@ -20,7 +20,8 @@ static inline struct box box_of(struct line l) {
 }
 
 /* COLUMN asks once, for all lines from the point down to the edge. BANDS asks again further and further down, each band
-** four times as high as the last, until no line further down can be above the best one found. */
+** four times as high as the last, until no line further down can be above the best one found. If nothing is found, both ask
+** upwards in the same way. */
 enum form { COLUMN, BANDS, FORMS };
 
 /* An index over the first `count` slots of a line table, all live. Built once. */
@@ -47,6 +48,16 @@ class finding {
     if (best == NOTHING || higher(e, highest)) best = slot, highest = e;
   }
 
+  /* Asked only once nothing is found below. */
+  void see_above(size_t slot) {
+    struct line l = line_at(lines, slot);
+    if (!passes_over(l, p)) return;
+    struct line e = eastward(l);
+    if (over == NOTHING || higher(lowest, e)) over = slot, lowest = e;
+  }
+
+  bool nothing_yet() const { return on == NOTHING && best == NOTHING; }
+
   /* No line that passes under the point lower than this height can change the answer. */
   bool settled(int height) const {
     if (on != NOTHING) return true;
@@ -54,16 +65,23 @@ class finding {
     return best != NOTHING && turn(highest.a, highest.b, bottom) <= 0;
   }
 
+  /* Nor one that passes over it higher than this. */
+  bool settled_above(int height) const {
+    struct point top = {p.x, static_cast<u16>(height)};
+    return over != NOTHING && turn(lowest.a, lowest.b, top) >= 0;
+  }
+
   u32 answer() const {
     if (on != NOTHING) return static_cast<u32>(65536 + on);
-    return best == NOTHING ? 0 : upper_label(lines, best);
+    if (best != NOTHING) return upper_label(lines, best);
+    return over == NOTHING ? 0 : lower_label(lines, over);
   }
 
  private:
   const u16 *lines;
   struct point p;
-  size_t on = NOTHING, best = NOTHING;
-  struct line highest = {};
+  size_t on = NOTHING, best = NOTHING, over = NOTHING;
+  struct line highest = {}, lowest = {};
 };
 
 /* The questions over an index with build(lines, count) and each(box, visit). Not virtual inside, so that the visit of a
@@ -96,6 +114,7 @@ template <class Index> class asked_of final : public other {
   u32 locate_column(struct point p) const {
     finding found(lines, p);
     index.each({p.x, 0, p.x, p.y}, [&](size_t slot) { found.see(slot); });
+    if (found.nothing_yet()) index.each({p.x, p.y, p.x, SIDE}, [&](size_t slot) { found.see_above(slot); });
     return found.answer();
   }
 
@@ -107,7 +126,17 @@ template <class Index> class asked_of final : public other {
       if (found.settled(bottom)) break;
       top = bottom;
     }
+    if (found.nothing_yet()) ask_bands_above(found, p);
     return found.answer();
+  }
+
+  void ask_bands_above(finding &found, struct point p) const {
+    for (int bottom = p.y, high = first_band; bottom < SIDE; high *= 4) {
+      int top = bottom + high < SIDE ? bottom + high : SIDE;
+      index.each({p.x, bottom, p.x, top}, [&](size_t slot) { found.see_above(slot); });
+      if (found.settled_above(top)) break;
+      bottom = top;
+    }
   }
 
   Index index;
