@@ -41,47 +41,37 @@ class finding {
 
   void see(size_t slot) {
     struct line l = line_at(lines, slot);
-    enum stand stand = stand_of(l, p);
+    enum stand stand = stand_of(l, p, south);
     if (stand == ON && slot < on) on = slot;
-    if (stand != BELOW) return;
+    if (stand != COUNTS) return;
     struct line e = eastward(l);
-    if (best == NOTHING || higher(e, highest)) best = slot, highest = e;
+    if (best == NOTHING || comes_first(e, first, south)) best = slot, first = e;
   }
 
-  /* Asked only once nothing is found below. */
-  void see_above(size_t slot) {
-    struct line l = line_at(lines, slot);
-    if (!passes_over(l, p)) return;
-    struct line e = eastward(l);
-    if (over == NOTHING || higher(lowest, e)) over = slot, lowest = e;
-  }
-
-  bool nothing_yet() const { return on == NOTHING && best == NOTHING; }
-
-  /* No line that passes under the point lower than this height can change the answer. */
+  /* No line further on the way than this height can change the answer. */
   bool settled(int height) const {
     if (on != NOTHING) return true;
-    struct point bottom = {p.x, static_cast<u16>(height)};
-    return best != NOTHING && turn(highest.a, highest.b, bottom) <= 0;
+    struct point there = {p.x, static_cast<u16>(height)};
+    return best != NOTHING && !beyond(turn(first.a, first.b, there), south);
   }
 
-  /* Nor one that passes over it higher than this. */
-  bool settled_above(int height) const {
-    struct point top = {p.x, static_cast<u16>(height)};
-    return over != NOTHING && turn(lowest.a, lowest.b, top) >= 0;
+  /* Nothing is found below: what is seen from now on is looked at for lines above. */
+  bool turns_north() {
+    if (on == NOTHING && best == NOTHING) south = false;
+    return !south;
   }
 
   u32 answer() const {
     if (on != NOTHING) return static_cast<u32>(65536 + on);
-    if (best != NOTHING) return upper_label(lines, best);
-    return over == NOTHING ? 0 : lower_label(lines, over);
+    return best == NOTHING ? 0 : answer_by(lines, best, south);
   }
 
  private:
   const u16 *lines;
   struct point p;
-  size_t on = NOTHING, best = NOTHING, over = NOTHING;
-  struct line highest = {}, lowest = {};
+  bool south = true;
+  size_t on = NOTHING, best = NOTHING;
+  struct line first = {};
 };
 
 /* The questions over an index with build(lines, count) and each(box, visit). Not virtual inside, so that the visit of a
@@ -114,7 +104,7 @@ template <class Index> class asked_of final : public other {
   u32 locate_column(struct point p) const {
     finding found(lines, p);
     index.each({p.x, 0, p.x, p.y}, [&](size_t slot) { found.see(slot); });
-    if (found.nothing_yet()) index.each({p.x, p.y, p.x, SIDE}, [&](size_t slot) { found.see_above(slot); });
+    if (found.turns_north()) index.each({p.x, p.y, p.x, SIDE}, [&](size_t slot) { found.see(slot); });
     return found.answer();
   }
 
@@ -126,15 +116,15 @@ template <class Index> class asked_of final : public other {
       if (found.settled(bottom)) break;
       top = bottom;
     }
-    if (found.nothing_yet()) ask_bands_above(found, p);
+    if (found.turns_north()) ask_bands_above(found, p);
     return found.answer();
   }
 
   void ask_bands_above(finding &found, struct point p) const {
     for (int bottom = p.y, high = first_band; bottom < SIDE; high *= 4) {
       int top = bottom + high < SIDE ? bottom + high : SIDE;
-      index.each({p.x, bottom, p.x, top}, [&](size_t slot) { found.see_above(slot); });
-      if (found.settled_above(top)) break;
+      index.each({p.x, bottom, p.x, top}, [&](size_t slot) { found.see(slot); });
+      if (found.settled(top)) break;
       bottom = top;
     }
   }

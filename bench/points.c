@@ -7,8 +7,8 @@
 static bool is_of_kind(const u16 *lines, size_t slots, enum kind kind, struct point p) {
   bool below = false;
   for (size_t s = 0; s < slots; s++) {
-    enum stand stand = stand_of(line_at(lines, s), p);
-    below |= stand == BELOW;
+    enum stand stand = stand_of(line_at(lines, s), p, true);
+    below |= stand == COUNTS;
     if ((stand == ON) | (below & (kind == NONE_BELOW))) return false;
   }
   return below == (kind == SOME_BELOW);
