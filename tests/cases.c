@@ -1,6 +1,7 @@
-/* Document 01's numbers, P1 to P11 and the case that is only run, pairs of lines of each kind of conflict, points with lines
- * above them and below, windows, and the corners of the grid, over the C boundary. Each is written out here by hand and asked
- * twice: of the library, and of the plain search that the other tests rest on. With FIRST=1 it ends at the first that fails. */
+/* Document 01's numbers, P1 to P11 (P10's third as document 02 has it) and the case that is only run, pairs of lines of each kind
+ * of conflict, points with lines above them and below, windows, and the corners of the grid, over the C boundary. Each is written
+ * out here by hand and asked twice: of the library, and of the plain search that the other tests rest on. With FIRST=1 it ends at
+ * the first that fails. */
 #include "library.h"
 #include "plain.h"
 
