@@ -71,13 +71,14 @@ valgrind: build/boundary-map
 # Measuring: never part of a test.
 BENCH_MAPS = $(patsubst %,bench/maps/%.txt,fields10 fields100 fields300 fields1000 slivers furrows fences fans \
   ditches hub250 hub500 hub1000)
-BENCH_HEADERS = bench/calls.h bench/mapfile.h bench/plane.h bench/timing.h bench/tree.h bench/ways.h bench/window.h include/boundary_map.h
+BENCH_HEADERS = bench/calls.h bench/mapfile.h bench/plane.h bench/points.h bench/timing.h bench/tree.h bench/ways.h bench/window.h \
+  include/boundary_map.h
 
-build/bench/bench: bench/bench.c bench/mapfile.c bench/twin.c bench/naive.c bench/window.c $(BENCH_HEADERS) $(LIB)
+build/bench/bench: $(patsubst %,bench/%.c,bench mapfile twin naive points window) $(BENCH_HEADERS) $(LIB)
 	@mkdir -p build/bench
 	$(BUILD_C) $(filter %.c,$^) $(LIB) $(LDFLAGS) -o $@
 
-build/bench/count: bench/count.c bench/mapfile.c bench/twin.c bench/window.c $(BENCH_HEADERS) $(LIB)
+build/bench/count: $(patsubst %,bench/%.c,count mapfile twin points window) $(BENCH_HEADERS) $(LIB)
 	@mkdir -p build/bench
 	$(BUILD_C) $(filter %.c,$^) $(LIB) $(LDFLAGS) -o $@
 

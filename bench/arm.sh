@@ -31,8 +31,8 @@ compiled() {
 linked() {
   local name=$1 file
   shift
-  for file in count mapfile twin window; do compiled $file $name-$file "$@"; done
-  $arm-gcc -static $out/$name-{count,mapfile,twin,window}.o -Wl,-Map=$out/$name.map -o $out/$name
+  for file in count mapfile twin points window; do compiled $file $name-$file "$@"; done
+  $arm-gcc -static $out/$name-{count,mapfile,twin,points,window}.o -Wl,-Map=$out/$name.map -o $out/$name
 }
 
 # found NAME PATTERN: how many instructions of the object are such.

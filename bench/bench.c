@@ -1,25 +1,27 @@
 /* Times every call on maps, for the library, the twin and the naive way in one run: bench MAP..
 ** The ways take turns, call by call, so that what else the machine does falls on all alike; their answers and tables
 ** are compared as it goes. Times are microseconds: the median, and the quartiles of the library's; ratios are medians of
-** the turns' ratios. */
+** the turns' ratios. Below and none are locates of points on no line, with a line that counts below or with none. */
 #define _POSIX_C_SOURCE 199309L
 #include "mapfile.h"
+#include "points.h"
 #include "timing.h"
 #include "window.h"
 
 #include <stdio.h>
 
 enum { LIBRARY, TWIN, NAIVE, WAYS };
-enum { SOUNDNESS, INSERT, DELETE, LOCATE1, LOCATE100, LOCATE10000, WINDOW, CALLS = WINDOW + WINDOWS };
+enum { SOUNDNESS, INSERT, DELETE, LOCATE1, LOCATE100, LOCATE10000, BELOW10000, NONE10000, WINDOW, CALLS = WINDOW + WINDOWS };
 enum { POINTS = 10000, MOST = MOST_TURNS };
 
-static const char *const call_names[WINDOW] = {"soundness", "insert", "delete", "locate 1", "locate 100", "locate 10000"};
-static const size_t points_of[WINDOW] = {0, 0, 0, 1, 100, 10000};
+static const char *const call_names[WINDOW] = {"soundness", "insert", "delete", "locate 1", "locate 100", "locate 10000",
+                                               "below 10000", "none 10000"};
+static const size_t points_of[WINDOW] = {0, 0, 0, 1, 100, POINTS, POINTS, POINTS};
 
 static struct map maps[WAYS];
 static uint32_t answers[WAYS][POINTS];
 static uint16_t told[WAYS][BOUNDARY_MAP_SLOTS_MAX];
-static uint16_t points[2 * POINTS];
+static uint16_t points[2 * POINTS], with_below[2 * POINTS], with_none[2 * POINTS];
 static double times[CALLS][WAYS][MOST], plain[MOST];
 static size_t taken[CALLS][WAYS], plain_taken;
 
@@ -79,6 +81,12 @@ static void choose_points(const char *name) {
   }
 }
 
+/* And by kind, over the whole map. Those of a kind that is too rare are repeated, and that is said. */
+static void choose_kind(enum kind kind, uint16_t *to, size_t lines, const char *name) {
+  size_t found = draw_points(maps[LIBRARY].lines, lines, kind, to, POINTS);
+  if (found < POINTS) fprintf(stderr, "%s: %zu points with %s below, repeated\n", name, found, kind == SOME_BELOW ? "a line" : "none");
+}
+
 /* One line taken and put back, by the first `ways` ways, in either order. */
 static void time_edit(int ways, size_t slot, int turned, const char *name) {
   uint64_t took[WAYS], put[WAYS];
@@ -103,7 +111,8 @@ static void time_edit(int ways, size_t slot, int turned, const char *name) {
 static void time_locate(int ways, int call, int turned, const char *name) {
   uint64_t done[WAYS];
   size_t count = points_of[call];
-  const uint16_t *from = points + 2 * (count == POINTS ? 0 : some((uint32_t)(POINTS - count)));
+  const uint16_t *list = call == BELOW10000 ? with_below : call == NONE10000 ? with_none : points;
+  const uint16_t *from = list + 2 * (count == POINTS ? 0 : some((uint32_t)(POINTS - count)));
   for (int i = 0; i < ways; i++) {
     int way = turned ? ways - 1 - i : i;
     double t = now();
@@ -146,7 +155,7 @@ static void measure(const char *name, size_t lines) {
     time_locate(ways, LOCATE1, i % 2, name);
     time_locate(ways, LOCATE100, i % 2, name);
     for (int which = 0; which < WINDOWS; which++) time_window(ways, which, i % 2, name);
-    if (i < many) time_locate(ways, LOCATE10000, i % 2, name);
+    for (int call = LOCATE10000; call <= NONE10000 && i < many; call++) time_locate(ways, call, i % 2, name);
     if (i < 2 * seldom) time_plain(name);
   }
 }
@@ -179,6 +188,8 @@ int main(int argc, char **argv) {
     name_of(argv[i], name, sizeof name);
     choose_points(name);
     load(rows, count, name);
+    choose_kind(SOME_BELOW, with_below, count, name);
+    choose_kind(NONE_BELOW, with_none, count, name);
     measure(name, count);
     for (int call = 0; call < CALLS; call++) print_call(name, count, call);
     print_plain(name, count);

@@ -18,7 +18,7 @@ name_of() {
 
 printf '%-11s %-12s %12s %12s %8s\n' map call library twin 'of twin'
 for map in fields100 fields1000 hub1000; do
-  for call in soundness insert delete locate1 locate10000 refused window2000 window8000 windowall; do
+  for call in soundness insert delete locate1 locate10000 below10000 none10000 refused window2000 window8000 windowall; do
     library=$(counted "boundary_map_$(name_of $call)" library $call $map)
     twin=$(counted "twin_$(name_of $call)" twin $call $map)
     printf '%-11s %-12s %12d %12d %8s\n' $map $call "$library" "$twin" "$(awk "BEGIN{printf \"%.3f\", $library/$twin}")"

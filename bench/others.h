@@ -20,7 +20,8 @@ static inline struct box box_of(struct line l) {
 }
 
 /* COLUMN asks once, for all lines from the point down to the edge. BANDS asks again further and further down, each band
-** four times as high as the last, until no line further down can be above the best one found. */
+** four times as high as the last, until no line further down can be above the best one found. If nothing is found, both ask
+** upwards in the same way. */
 enum form { COLUMN, BANDS, FORMS };
 
 /* An index over the first `count` slots of a line table, all live. Built once. */
@@ -40,30 +41,37 @@ class finding {
 
   void see(size_t slot) {
     struct line l = line_at(lines, slot);
-    enum stand stand = stand_of(l, p);
+    enum stand stand = stand_of(l, p, south);
     if (stand == ON && slot < on) on = slot;
-    if (stand != BELOW) return;
+    if (stand != COUNTS) return;
     struct line e = eastward(l);
-    if (best == NOTHING || higher(e, highest)) best = slot, highest = e;
+    if (best == NOTHING || comes_first(e, first, south)) best = slot, first = e;
   }
 
-  /* No line that passes under the point lower than this height can change the answer. */
+  /* No line further on the way than this height can change the answer. */
   bool settled(int height) const {
     if (on != NOTHING) return true;
-    struct point bottom = {p.x, static_cast<u16>(height)};
-    return best != NOTHING && turn(highest.a, highest.b, bottom) <= 0;
+    struct point there = {p.x, static_cast<u16>(height)};
+    return best != NOTHING && !beyond(turn(first.a, first.b, there), south);
+  }
+
+  /* Nothing is found below: what is seen from now on is looked at for lines above. */
+  bool turns_north() {
+    if (on == NOTHING && best == NOTHING) south = false;
+    return !south;
   }
 
   u32 answer() const {
     if (on != NOTHING) return static_cast<u32>(65536 + on);
-    return best == NOTHING ? 0 : upper_label(lines, best);
+    return best == NOTHING ? 0 : answer_by(lines, best, south);
   }
 
  private:
   const u16 *lines;
   struct point p;
+  bool south = true;
   size_t on = NOTHING, best = NOTHING;
-  struct line highest = {};
+  struct line first = {};
 };
 
 /* The questions over an index with build(lines, count) and each(box, visit). Not virtual inside, so that the visit of a
@@ -96,6 +104,7 @@ template <class Index> class asked_of final : public other {
   u32 locate_column(struct point p) const {
     finding found(lines, p);
     index.each({p.x, 0, p.x, p.y}, [&](size_t slot) { found.see(slot); });
+    if (found.turns_north()) index.each({p.x, p.y, p.x, SIDE}, [&](size_t slot) { found.see(slot); });
     return found.answer();
   }
 
@@ -107,7 +116,17 @@ template <class Index> class asked_of final : public other {
       if (found.settled(bottom)) break;
       top = bottom;
     }
+    if (found.turns_north()) ask_bands_above(found, p);
     return found.answer();
+  }
+
+  void ask_bands_above(finding &found, struct point p) const {
+    for (int bottom = p.y, high = first_band; bottom < SIDE; high *= 4) {
+      int top = bottom + high < SIDE ? bottom + high : SIDE;
+      index.each({p.x, bottom, p.x, top}, [&](size_t slot) { found.see(slot); });
+      if (found.settled(top)) break;
+      bottom = top;
+    }
   }
 
   Index index;

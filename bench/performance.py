@@ -10,6 +10,7 @@ import subprocess
 
 ROOT = os.path.dirname(os.path.dirname(os.path.abspath(__file__)))
 CALLS = ["soundness", "insert", "delete", "locate 1", "locate 100", "locate 10000"]
+KINDS = ["below 10000", "none 10000"]
 WINDOWS = ["window 2000", "window 8000", "window all"]
 FIELDS = ["fields10", "fields100", "fields300", "fields1000"]
 
@@ -55,9 +56,9 @@ def short(t):
     return f"{t:,.1f}" if t < 100 else f"{t:,.0f}"
 
 
-def per_point(calls, way="library"):
+def per_point(calls, way="library", call="locate 10000"):
     """Nanoseconds a point, the check of the map taken off."""
-    return (calls["locate 10000"][way] - calls["soundness"][way]) / 10000 * 1000
+    return (calls[call][way] - calls["soundness"][way]) / 10000 * 1000
 
 
 def cell(figure, good):
@@ -132,6 +133,16 @@ def search_table(times):
     for name, calls in times.items():
         r = calls["plain search"]
         rows.append(f"| {name} | {short(r['library'])} | {short(r['naive'])} | {r['faster']:.1f} |")
+    return "\n".join(rows)
+
+
+def kind_table(times):
+    rows = ["| Map | " + " | ".join(f"{k}, ns a point | the twin's | whole call over twin | times faster than naive" for k in KINDS) + " |",
+            "|---|" + "---|" * 8]
+    for name, calls in times.items():
+        cells = [cell for k in KINDS for cell in [f"{per_point(calls, call=k):.0f}", f"{per_point(calls, 'twin', k):.0f}",
+                                                  f"{calls[k]['of_twin']:.2f}", f"{calls[k]['faster']:,.1f}"]]
+        rows.append(f"| {name} | " + " | ".join(cells) + " |")
     return "\n".join(rows)
 
 
@@ -266,6 +277,13 @@ Against a plain search of all lines for each point, with no check of the map at 
 
 {search}
 
+## Points by kind
+
+Below: all points have a line that counts below them, and are on no line. None: no line counts below, and the nearest above
+answers, or 0. Both kinds are drawn over the whole map, in ditches too; where one is rare its points are repeated (below, on the hubs).
+
+{kinds}
+
 ## Windows
 
 A window reads every live line once, after the check of the map. Microseconds of squares of side 2,000 and 8,000 in the middle of the
@@ -303,7 +321,7 @@ def main():
     page = PAGE.format(processor=processor(), must=must_show(times, counts, scans), elsewhere=elsewhere(times), growth=time_table(times, FIELDS),
                        spread=spread_table(times), others=time_table(times, others),
                        twin=ratio_table(times, "of_twin", ".2f"), naive=ratio_table(times, "faster", ",.1f"),
-                       search=search_table(times), windows=window_table(times), scans=scan_table(scans),
+                       search=search_table(times), kinds=kind_table(times), windows=window_table(times), scans=scan_table(scans),
                        instructions=instruction_table(counts), shares=share_table(shares), notes=notes)
     with open(os.path.join(ROOT, "docs/PERFORMANCE.md"), "w") as f:
         f.write(page)

@@ -1,10 +1,12 @@
-/* Document 01's numbers, P1 to P11 and the case that is only run, pairs of lines of each kind of conflict, windows, and
- * the corners of the grid, over the C boundary. Each is written out here by hand and asked twice: of the library, and of
- * the plain search that the other tests rest on. */
+/* Document 01's numbers, P1 to P11 (P10's third as document 02 has it) and the case that is only run, pairs of lines of each kind
+ * of conflict, points with lines above them and below, windows, and the corners of the grid, over the C boundary. Each is written
+ * out here by hand and asked twice: of the library, and of the plain search that the other tests rest on. With FIRST=1 it ends at
+ * the first that fails. */
 #include "library.h"
 #include "plain.h"
 
 #include <stdio.h>
+#include <stdlib.h>
 #include <string.h>
 
 /* Both sides, one behind the other's signatures */
@@ -135,7 +137,7 @@ static uint64_t delete_handle(uint32_t handle)
     return side->remove(lines, 8 * slots, nodes, node_room, listings, listing_room, handle);
 }
 
-/* The answer for one point; no answer that document 01 knows if the call is refused. */
+/* The answer for one point; no answer that there is if the call is refused. */
 static uint32_t locate(uint16_t x, uint16_t y)
 {
     const uint16_t point[2] = { x, y };
@@ -261,7 +263,7 @@ static void p10(void)
     EXPECT(insert_labelled(0, 8000, 16383, 8000, 7, 9) == 1);
     EXPECT(locate(5, 9000) == 7);
     EXPECT(locate(5, 8000) == 65536);
-    EXPECT(locate(5, 7999) == 0);
+    EXPECT(locate(5, 7999) == 9);
     EXPECT(locate(16384, 0) == UINT32_C(4294967295));
     EXPECT(locate(16383, 9000) == 0);
 }
@@ -453,8 +455,8 @@ static void far_kinds(void)
     }
 }
 
-/* One line with label 7 above it, a point, its turn, and what it is answered. */
-enum { ABOVE = 7, ON_IT = 65536 };
+/* One line with label 7 above it and 9 below, a point, its turn, and what it is answered. */
+enum { UPPER = 7, LOWER = 9, ON_IT = 65536 };
 
 static const struct {
     const char *how;
@@ -466,36 +468,41 @@ static const struct {
     { "the diagonal's second point", { 0, 0, L, L }, { 1, 1 }, 0, ON_IT },
     { "the diagonal's last point but one", { 0, 0, L, L }, { B, B }, 0, ON_IT },
     { "the diagonal's last end", { 0, 0, L, L }, { L, L }, 0, ON_IT },
-    { "a step above its first end", { 0, 0, L, L }, { 0, 1 }, STEP, ABOVE },
-    { "a step below its second point", { 0, 0, L, L }, { 1, 0 }, -STEP, 0 },
-    { "a step above its last point but one", { 0, 0, L, L }, { B, L }, STEP, ABOVE },
-    { "a step below its last point", { 0, 0, L, L }, { L, B }, -STEP, 0 },
-    { "the corner above the diagonal", { 0, 0, L, L }, { 0, L }, GREATEST, ABOVE },
-    { "the corner below the diagonal", { 0, 0, L, L }, { L, 0 }, -GREATEST, 0 },
-    { "the corner below the falling diagonal", { 0, L, L, 0 }, { 0, 0 }, -GREATEST, 0 },
+    { "a step above its first end", { 0, 0, L, L }, { 0, 1 }, STEP, UPPER },
+    { "a step below its second point", { 0, 0, L, L }, { 1, 0 }, -STEP, LOWER },
+    { "a step above its last point but one", { 0, 0, L, L }, { B, L }, STEP, UPPER },
+    { "a step below its last point but one", { 0, 0, L, L }, { B, B - 1 }, -STEP, LOWER },
+    { "a step below its last point, under its east end", { 0, 0, L, L }, { L, B }, -STEP, 0 },
+    { "the corner above the diagonal", { 0, 0, L, L }, { 0, L }, GREATEST, UPPER },
+    { "the corner below the diagonal, under its east end", { 0, 0, L, L }, { L, 0 }, -GREATEST, 0 },
+    { "a step west of that corner", { 0, 0, L, L }, { B, 0 }, -1073545224, LOWER },
+    { "the corner below the falling diagonal", { 0, L, L, 0 }, { 0, 0 }, -GREATEST, LOWER },
     { "the corner above it, over its east end", { 0, L, L, 0 }, { L, L }, GREATEST, 0 },
-    { "a step west of that", { 0, L, L, 0 }, { B, L }, 1073545224, ABOVE },
+    { "a step west of that", { 0, L, L, 0 }, { B, L }, 1073545224, UPPER },
     { "the falling diagonal's second point", { 0, L, L, 0 }, { 1, B }, 0, ON_IT },
     { "the falling diagonal's last point but one", { 0, L, L, 0 }, { B, 1 }, 0, ON_IT },
-    { "a step below it", { 0, L, L, 0 }, { B, 0 }, -STEP, 0 },
-    { "a step above its second point", { 0, L, L, 0 }, { 1, L }, STEP, ABOVE },
-    { "above by the least", { 0, 0, L, B }, { 1, 1 }, 4, ABOVE },
-    { "below by the least", { 0, 0, B, L }, { 1, 1 }, -4, 0 },
-    { "above by the least, at the far corner", { 1, 0, L, L }, { B, B }, 4, ABOVE },
-    { "below by the least, at the far corner", { 0, 1, L, L }, { B, B }, -4, 0 },
+    { "a step below it", { 0, L, L, 0 }, { B, 0 }, -STEP, LOWER },
+    { "a step above its second point", { 0, L, L, 0 }, { 1, L }, STEP, UPPER },
+    { "above by the least", { 0, 0, L, B }, { 1, 1 }, 4, UPPER },
+    { "below by the least", { 0, 0, B, L }, { 1, 1 }, -4, LOWER },
+    { "above by the least, at the far corner", { 1, 0, L, L }, { B, B }, 4, UPPER },
+    { "below by the least, at the far corner", { 0, 1, L, L }, { B, B }, -4, LOWER },
     { "over the east end by little", { 0, 0, L, B }, { L, L }, STEP, 0 },
-    { "far above the south side", { 0, 0, L, 0 }, { 0, L }, GREATEST, ABOVE },
-    { "far above the south side's last point but one", { 0, 0, L, 0 }, { B, L }, GREATEST, ABOVE },
+    { "far above the south side", { 0, 0, L, 0 }, { 0, L }, GREATEST, UPPER },
+    { "far above the south side's last point but one", { 0, 0, L, 0 }, { B, L }, GREATEST, UPPER },
     { "far above the south side's east end", { 0, 0, L, 0 }, { L, L }, GREATEST, 0 },
-    { "a step above the south side", { 0, 0, L, 0 }, { 1, 1 }, STEP, ABOVE },
+    { "a step above the south side", { 0, 0, L, 0 }, { 1, 1 }, STEP, UPPER },
     { "on the south side", { 0, 0, L, 0 }, { B, 0 }, 0, ON_IT },
-    { "far below the north side", { 0, L, L, L }, { 0, 0 }, -GREATEST, 0 },
-    { "far below the north side's end", { 0, L, L, L }, { L, 0 }, -GREATEST, 0 },
+    { "far below the north side", { 0, L, L, L }, { 0, 0 }, -GREATEST, LOWER },
+    { "far below the north side's last point but one", { 0, L, L, L }, { B, 0 }, -GREATEST, LOWER },
+    { "far below the north side's east end", { 0, L, L, L }, { L, 0 }, -GREATEST, 0 },
+    { "a step below the north side", { 0, L, L, L }, { 1, B }, -STEP, LOWER },
     { "on the north side", { 0, L, L, L }, { 1, L }, 0, ON_IT },
     { "on the west side", { 0, 0, 0, L }, { 0, B }, 0, ON_IT },
     { "far east of the west side", { 0, 0, 0, L }, { L, L }, -GREATEST, 0 },
     { "far west of the east side", { L, 0, L, L }, { 0, L }, GREATEST, 0 },
     { "in line with an upright line, far above it", { 0, 0, 0, 1 }, { 0, L }, 0, 0 },
+    { "in line with an upright line, far below it", { 0, B, 0, L }, { 0, 0 }, 0, 0 },
     { "in line with a slanted line, far beyond it", { 0, 0, 1, 1 }, { B, B }, 0, 0 },
     { "in line with a level line, far beyond it", { 0, 0, 1, 0 }, { L, 0 }, 0, 0 },
 };
@@ -512,6 +519,240 @@ static void points_told(void)
         EXPECT(insert_either_way(l, i % 2 == 1) == 1);
         expect(locate(p[0], p[1]) == far_points[i / 2].answer, far_points[i / 2].how);
     }
+}
+
+/* Lines with their labels, a point, and what it is answered. Each is asked with the lines in every order of slots, by turns drawn
+ * as they stand here and turned over. A point is told the label of the nearest line that counts: below it, or, if there
+ * is none, above. Labels are odd above a line and even below it, so a label tells its line and its side. */
+
+enum { IN_VIEW = 3, FIRST_LINE = 65536 };
+
+static const struct view {
+    const char *how;
+    uint16_t point[2];
+    uint32_t answer;                     /* a label, or the line that is written first */
+    uint16_t line[IN_VIEW][6];
+} views[] = {
+    /* One line, and where its x range begins and ends */
+    { "under a line", { 50, 40 }, 2, { { 20, 100, 80, 100, 1, 2 } } },
+    { "over it", { 50, 140 }, 1, { { 20, 100, 80, 100, 1, 2 } } },
+    { "under its west end", { 20, 40 }, 2, { { 20, 100, 80, 100, 1, 2 } } },
+    { "a step under its west end", { 20, 99 }, 2, { { 20, 100, 80, 100, 1, 2 } } },
+    { "a step west of its west end", { 19, 40 }, 0, { { 20, 100, 80, 100, 1, 2 } } },
+    { "a step west of its east end", { 79, 40 }, 2, { { 20, 100, 80, 100, 1, 2 } } },
+    { "under its east end", { 80, 40 }, 0, { { 20, 100, 80, 100, 1, 2 } } },
+    { "a step under its east end", { 80, 99 }, 0, { { 20, 100, 80, 100, 1, 2 } } },
+    { "a step east of its east end", { 81, 40 }, 0, { { 20, 100, 80, 100, 1, 2 } } },
+    { "drawn westward, its left is below", { 50, 40 }, 2, { { 80, 100, 20, 100, 2, 1 } } },
+    { "under a rising line's west end", { 20, 40 }, 2, { { 20, 60, 80, 100, 1, 2 } } },
+    { "under a rising line's east end", { 80, 40 }, 0, { { 20, 60, 80, 100, 1, 2 } } },
+    { "under a falling line's west end", { 20, 40 }, 2, { { 20, 100, 80, 60, 1, 2 } } },
+    { "under a falling line's east end", { 80, 40 }, 0, { { 20, 100, 80, 60, 1, 2 } } },
+    { "on it, inside", { 50, 100 }, FIRST_LINE, { { 20, 100, 80, 100, 1, 2 } } },
+    { "on its east end", { 80, 100 }, FIRST_LINE, { { 20, 100, 80, 100, 1, 2 } } },
+
+    /* P11 seen from below: at a common west end the one that rises less steeply is the lower just east of it. */
+    { "level and rising", { 10, 40 }, 2, { { 10, 100, 50, 100, 1, 2 }, { 10, 100, 50, 140, 3, 4 } } },
+    { "falling and level", { 10, 40 }, 2, { { 10, 100, 50, 60, 1, 2 }, { 10, 100, 50, 100, 3, 4 } } },
+    { "falling by 40 in 40 and by 20 in 40", { 10, 40 }, 2, { { 10, 100, 50, 60, 1, 2 }, { 10, 100, 50, 80, 3, 4 } } },
+    { "falling steeply, rising a little", { 10, 20 }, 2, { { 10, 100, 50, 30, 1, 2 }, { 10, 100, 90, 101, 3, 4 } } },
+    { "rising by 30 in 80 and by 5 in 10", { 10, 40 }, 2, { { 10, 100, 90, 130, 1, 2 }, { 10, 100, 20, 105, 3, 4 } } },
+    { "falling by 5 in 10 and by 30 in 80", { 10, 40 }, 2, { { 10, 100, 20, 95, 1, 2 }, { 10, 100, 90, 70, 3, 4 } } },
+    { "rising by 40 in 40 and by 40 in 39", { 10, 40 }, 2, { { 10, 100, 50, 140, 1, 2 }, { 10, 100, 49, 140, 3, 4 } } },
+    { "falling, level and rising", { 10, 40 }, 2,
+      { { 10, 100, 50, 80, 1, 2 }, { 10, 100, 50, 100, 3, 4 }, { 10, 100, 50, 120, 5, 6 } } },
+    { "a step east of the common end", { 11, 40 }, 2, { { 10, 100, 50, 99, 1, 2 }, { 10, 100, 50, 140, 3, 4 } } },
+    { "the upright one from there is none of them", { 10, 40 }, 2,
+      { { 10, 100, 50, 120, 1, 2 }, { 10, 100, 10, 60, 3, 4 }, { 10, 100, 50, 140, 5, 6 } } },
+    { "at a common east end neither counts", { 50, 40 }, 0, { { 10, 100, 50, 120, 1, 2 }, { 10, 140, 50, 120, 3, 4 } } },
+    { "an east end and a west end: the line that begins", { 50, 40 }, 2, { { 50, 100, 90, 100, 1, 2 }, { 10, 100, 50, 100, 3, 4 } } },
+    { "an east end and a west end, falling to it", { 50, 40 }, 2, { { 50, 60, 90, 100, 1, 2 }, { 10, 100, 50, 60, 3, 4 } } },
+    { "the same end over the point", { 50, 140 }, 1, { { 50, 60, 90, 100, 1, 2 }, { 10, 100, 50, 60, 3, 4 } } },
+
+    /* The lowest of several */
+    { "three above", { 50, 40 }, 2, { { 0, 60, 100, 60, 1, 2 }, { 0, 80, 100, 80, 3, 4 }, { 0, 100, 100, 100, 5, 6 } } },
+    { "three above, under their west ends", { 0, 40 }, 2,
+      { { 0, 60, 100, 70, 1, 2 }, { 0, 80, 100, 90, 3, 4 }, { 0, 100, 100, 110, 5, 6 } } },
+    { "the lowest there begins highest", { 80, 20 }, 2, { { 0, 150, 100, 50, 1, 2 }, { 70, 85, 100, 85, 3, 4 } } },
+    { "the lowest there goes highest", { 10, 20 }, 2, { { 0, 50, 100, 150, 1, 2 }, { 0, 90, 20, 90, 3, 4 } } },
+    { "less than a step apart", { 51, 20 }, 2, { { 50, 99, 53, 100, 1, 2 }, { 49, 100, 52, 100, 3, 4 } } },
+    { "under the east end of the lowest: the next", { 60, 20 }, 2, { { 20, 90, 99, 90, 1, 2 }, { 20, 60, 60, 60, 3, 4 } } },
+    { "under the west end of the lowest", { 60, 20 }, 2, { { 60, 60, 99, 60, 1, 2 }, { 20, 90, 99, 90, 3, 4 } } },
+    { "west of the lowest's west end: the next", { 59, 20 }, 2, { { 20, 90, 99, 90, 1, 2 }, { 60, 60, 99, 60, 3, 4 } } },
+    { "the lowest's label is 0: the next is not asked", { 50, 40 }, 0, { { 0, 60, 99, 60, 1, 0 }, { 0, 90, 99, 90, 3, 4 } } },
+
+    /* A line below answers before any above */
+    { "between two lines", { 50, 50 }, 1, { { 0, 20, 99, 20, 1, 2 }, { 0, 80, 99, 80, 3, 4 } } },
+    { "between two lines, next to the upper", { 50, 79 }, 1, { { 0, 20, 99, 20, 1, 2 }, { 0, 80, 99, 80, 3, 4 } } },
+    { "between two lines, the label below is 0", { 50, 50 }, 0, { { 0, 20, 99, 20, 0, 2 }, { 0, 80, 99, 80, 3, 4 } } },
+    { "the same, a step over the lower", { 50, 21 }, 0, { { 0, 20, 99, 20, 0, 2 }, { 0, 80, 99, 80, 3, 4 } } },
+    { "the same, under both", { 50, 10 }, 2, { { 0, 20, 99, 20, 0, 2 }, { 0, 80, 99, 80, 3, 4 } } },
+    { "the lower of two below has a label, the higher 0", { 50, 50 }, 0,
+      { { 0, 40, 99, 40, 0, 2 }, { 0, 20, 99, 20, 3, 4 }, { 0, 80, 99, 80, 5, 6 } } },
+    { "over the east end of the lower: the upper answers", { 60, 50 }, 4, { { 20, 20, 60, 20, 1, 2 }, { 0, 80, 99, 80, 3, 4 } } },
+    { "over the west end of the lower", { 20, 50 }, 1, { { 20, 20, 60, 20, 1, 2 }, { 0, 80, 99, 80, 3, 4 } } },
+    { "on the first, between two", { 50, 50 }, FIRST_LINE,
+      { { 0, 50, 99, 50, 1, 2 }, { 0, 20, 99, 20, 3, 4 }, { 0, 80, 99, 80, 5, 6 } } },
+    { "on the first's east end, under another", { 60, 50 }, FIRST_LINE, { { 20, 50, 60, 50, 1, 2 }, { 0, 80, 99, 80, 3, 4 } } },
+    { "on the first, and it is upright", { 50, 50 }, FIRST_LINE, { { 50, 40, 50, 60, 1, 2 }, { 0, 80, 99, 80, 3, 4 } } },
+
+    /* Upright lines */
+    { "under an upright line", { 50, 20 }, 0, { { 50, 60, 50, 90, 1, 2 } } },
+    { "over an upright line", { 50, 99 }, 0, { { 50, 60, 50, 90, 1, 2 } } },
+    { "beside an upright line", { 49, 70 }, 0, { { 50, 60, 50, 90, 1, 2 } } },
+    { "an upright line above, a line above that", { 50, 20 }, 4, { { 50, 60, 50, 90, 1, 2 }, { 0, 95, 99, 95, 3, 4 } } },
+    { "an upright line below, a line above", { 50, 40 }, 4, { { 50, 10, 50, 30, 1, 2 }, { 0, 95, 99, 95, 3, 4 } } },
+    { "an upright line that hangs from a line's west end", { 50, 20 }, 4, { { 50, 60, 50, 90, 1, 2 }, { 50, 90, 99, 90, 3, 4 } } },
+    { "an upright line that hangs from a line's east end", { 50, 20 }, 0, { { 50, 60, 50, 90, 1, 2 }, { 10, 90, 50, 90, 3, 4 } } },
+
+    /* Nothing either way */
+    { "between the ranges of two lines", { 50, 40 }, 0, { { 0, 90, 40, 90, 1, 2 }, { 60, 90, 99, 90, 3, 4 } } },
+    { "over one east end and under another", { 50, 40 }, 0, { { 0, 20, 50, 20, 1, 2 }, { 0, 90, 50, 90, 3, 4 } } },
+};
+
+static size_t lines_in(const struct view *v)
+{
+    size_t count = 0;
+
+    while (count < IN_VIEW && (v->line[count][0] != v->line[count][2] || v->line[count][1] != v->line[count][3]))
+        count++;
+    return count;
+}
+
+/* The orders of one line, of two and of three: which line is in which slot. */
+static const struct {
+    size_t many, slot[6][IN_VIEW];
+} orders[IN_VIEW] = {
+    { 1, { { 0, 1, 2 } } },
+    { 2, { { 0, 1, 2 }, { 1, 0, 2 } } },
+    { 6, { { 0, 1, 2 }, { 0, 2, 1 }, { 1, 0, 2 }, { 1, 2, 0 }, { 2, 0, 1 }, { 2, 1, 0 } } },
+};
+
+/* Answers the slot that the first line is in. */
+static size_t put_view(const struct view *v, size_t count, const size_t order[IN_VIEW], int over)
+{
+    size_t slot, first = 0;
+
+    fresh(IN_VIEW, 1000, 1000);
+    for (slot = 0; slot < count; slot++) {
+        const uint16_t *l = v->line[order[slot]];
+
+        first = order[slot] == 0 ? slot : first;
+        EXPECT((over ? insert_labelled(l[2], l[3], l[0], l[1], l[5], l[4])
+                     : insert_labelled(l[0], l[1], l[2], l[3], l[4], l[5])) == slot * 65536 + 1);
+    }
+    return first;
+}
+
+static void views_told(void)
+{
+    size_t i, k;
+
+    for (i = 0; i < sizeof views / sizeof *views; i++) {
+        const struct view *v = &views[i];
+        size_t count = lines_in(v), many = orders[count - 1].many;
+
+        for (k = 0; k < many || k < 2; k++) {
+            size_t first = put_view(v, count, orders[count - 1].slot[k % many], k % 2 == 1);
+            uint32_t wanted = v->answer + (v->answer == FIRST_LINE ? (uint32_t)first : 0);
+
+            expect(locate(v->point[0], v->point[1]) == wanted, v->how);
+        }
+    }
+}
+
+/* Two upright lines a step apart make a column of smallest leaves, and the roof is far north of them. No line is below, so
+ * all points up to the roof have its label, whether they stand under the column, beside it or over it. A floor then takes
+ * over those above it, with label 0. */
+static void under_many_leaves(void)
+{
+    const uint16_t heights[] = { 0, 499, 601, 700, 12999 };
+    size_t i;
+
+    fresh_large();
+    EXPECT(insert_labelled(1000, 500, 1000, 600, 1, 2) == 1);
+    EXPECT(insert_labelled(1001, 600, 1001, 500, 3, 4) == 65536 + 1);
+    EXPECT(insert_labelled(16383, 13000, 0, 13000, 6, 5) == 2 * 65536 + 1);
+    for (i = 0; i < sizeof heights / sizeof *heights; i++) {
+        EXPECT(locate(1000, heights[i]) == 6);
+        EXPECT(locate(1001, heights[i]) == 6);
+        EXPECT(locate(999, heights[i]) == 6);
+        EXPECT(locate(16382, heights[i]) == 6);
+        EXPECT(locate(16383, heights[i]) == 0);
+    }
+    EXPECT(locate(1000, 550) == 65536);
+    EXPECT(locate(1001, 550) == 65536 + 1);
+    EXPECT(locate(1002, 550) == 6);
+    EXPECT(locate(1000, 13001) == 5);
+    EXPECT(insert_labelled(900, 400, 1001, 400, 0, 8) == 3 * 65536 + 1);
+    EXPECT(locate(1000, 399) == 8);
+    EXPECT(locate(1000, 499) == 0);
+    EXPECT(locate(1000, 700) == 0);
+    EXPECT(locate(1001, 499) == 6);
+    EXPECT(locate(899, 499) == 6);
+}
+
+/* Five fences in a row under a ditch that crosses the sheet. Each answers for the points under it and over it, from its west
+ * end on up to its east end; where none does, the ditch answers. */
+static void under_fences(void)
+{
+    uint16_t i;
+
+    fresh(6, 1000, 1000);
+    for (i = 0; i < 5; i++)
+        EXPECT(insert_labelled((uint16_t)(3000 * i + 300), 2000, (uint16_t)(3000 * i + 2700), (uint16_t)(2000 + 7 * i),
+                               (uint16_t)(2 * i + 1), (uint16_t)(2 * i + 2)) == i * (uint64_t)65536 + 1);
+    EXPECT(insert_labelled(0, 9000, 16383, 8000, 51, 52) == 5 * 65536 + 1);
+    for (i = 0; i < 5; i++) {
+        EXPECT(locate((uint16_t)(3000 * i + 1500), 5) == 2 * (uint32_t)i + 2);
+        EXPECT(locate((uint16_t)(3000 * i + 1500), 2100) == 2 * (uint32_t)i + 1);
+        EXPECT(locate((uint16_t)(3000 * i + 300), 1999) == 2 * (uint32_t)i + 2);
+        EXPECT(locate((uint16_t)(3000 * i + 2700), 1999) == 52);
+        EXPECT(locate((uint16_t)(3000 * i + 2850), 2100) == 52);
+        EXPECT(locate((uint16_t)(3000 * i + 299), 0) == 52);
+    }
+    EXPECT(locate(16382, 0) == 52);
+    EXPECT(locate(16383, 0) == 0);
+}
+
+/* The corners of the grid, with lines along its sides. At x = 16,383 no line ever counts: what has that x has its east end there. */
+static void corners_told(void)
+{
+    fresh_large();
+    EXPECT(insert_labelled(0, L, L, L, 1, 2) == 1);
+    EXPECT(locate(0, 0) == 2);
+    EXPECT(locate(L, 0) == 0);
+    EXPECT(locate(0, B) == 2);
+    EXPECT(locate(L, B) == 0);
+    EXPECT(locate(0, L) == 65536);
+    EXPECT(locate(L, L) == 65536);
+    EXPECT(insert_labelled(L, 0, 0, 0, 4, 3) == 65536 + 1);
+    EXPECT(locate(0, 1) == 3);
+    EXPECT(locate(0, B) == 3);
+    EXPECT(locate(B, B) == 3);
+    EXPECT(locate(L, 1) == 0);
+    EXPECT(locate(0, 0) == 65536 + 1);
+    EXPECT(locate(L, 0) == 65536 + 1);
+    EXPECT(delete_handle(1) == 0);
+    EXPECT(locate(0, L) == 3);
+    EXPECT(locate(B, L) == 3);
+    EXPECT(locate(L, L) == 0);
+    EXPECT(delete_handle(65536 + 1) == 0);
+    EXPECT(insert_labelled(0, 0, 0, L, 5, 6) == 2);
+    EXPECT(insert_labelled(L, L, L, 0, 7, 8) == 65536 + 2);
+    EXPECT(locate(0, 0) == 65536);
+    EXPECT(locate(0, L) == 65536);
+    EXPECT(locate(L, 0) == 65536 + 1);
+    EXPECT(locate(L, L) == 65536 + 1);
+    EXPECT(locate(1, 0) == 0);
+    EXPECT(locate(B, L) == 0);
+    EXPECT(insert_labelled(0, L, 1, L, 9, 10) == 2 * 65536 + 1);
+    EXPECT(insert_labelled(B, L, L, L, 11, 12) == 3 * 65536 + 1);
+    EXPECT(locate(0, 0) == 65536);
+    EXPECT(locate(1, 0) == 0);
+    EXPECT(locate(B, 0) == 12);
+    EXPECT(delete_handle(2) == 0);
+    EXPECT(locate(0, 0) == 10);
 }
 
 /* The tree of one line: how many lines each son of the whole map lists, NW, NE, SW, SE. Through the middle it meets all
@@ -785,6 +1026,27 @@ static void run_only(void)
     EXPECT(listings[listed] == 0 && listings[listed + 1] == 1);
 }
 
+/* The point's own leaf, the south-west quarter of the map, lists the steep line alone, which passes the point's x far north of
+ * it: at x = 7000 at height 14012.5. The other passes there at 8668 and a bit, in the quarter to the north. */
+static void beyond_own_leaf(void)
+{
+    size_t at, listed;
+
+    fresh_large();
+    EXPECT(insert_labelled(0, 100, 8000, 16000, 1, 2) == 1);
+    EXPECT(insert_labelled(6000, 8300, 7900, 9000, 3, 4) == 65536 + 1);
+    at = south_west(1, &listed);
+    EXPECT(nodes[at] == 1 && listings[listed] == 0);
+    EXPECT(locate(7000, 50) == 4);
+    EXPECT(locate(7000, 8668) == 4);
+    EXPECT(locate(7000, 8669) == 3);
+    EXPECT(locate(7900, 50) == 2);
+    EXPECT(locate(3000, 50) == 2);
+    EXPECT(locate(5999, 8500) == 2);
+    EXPECT(locate(6000, 8299) == 4);
+    EXPECT(locate(6000, 12100) == 1);
+}
+
 static const struct {
     const char *name;
     void (*run)(void);
@@ -792,6 +1054,9 @@ static const struct {
     { "P1", p1 }, { "P2", p2 }, { "P3", p3 }, { "P4", p4 },    { "P5", p5 },   { "P6", p6 },
     { "P7", p7 }, { "P8", p8 }, { "P9", p9 }, { "P10", p10 },  { "P11", p11 }, { "the run case", run_only },
     { "the kinds", kinds }, { "the lowest slot's kind", lowest_slot_kind },
+    { "points under and over lines", views_told }, { "a line beyond the point's own leaf", beyond_own_leaf },
+    { "a roof over many leaves", under_many_leaves }, { "a ditch over fences", under_fences },
+    { "corners of the grid, lines along its sides", corners_told },
     { "lines at the corners", far_kinds }, { "points at the corners", points_told },
     { "trees of lines at the corners", far_trees_built }, { "windows at the corners", far_windows },
     { "windows", windows_meet }, { "the list of a window", windows_list }, { "windows refused", windows_refused },
@@ -799,18 +1064,19 @@ static const struct {
 
 int main(void)
 {
-    size_t i, k;
-    int passed = 0, failed = 0;
+    enum { CASES = sizeof cases / sizeof *cases };
+    const char *first = getenv("FIRST");
+    int passed = 0, failed = 0, most = first != NULL && *first == '1' ? 1 : 2 * CASES;
+    size_t i;
 
-    for (k = 0; k < 2; k++)
-        for (i = 0; i < sizeof cases / sizeof *cases; i++) {
-            side = &sides[k];
-            doing = cases[i].name;
-            wrong = 0;
-            cases[i].run();
-            passed += !wrong;
-            failed += wrong;
-        }
+    for (i = 0; i < 2 * CASES && failed < most; i++) {
+        side = &sides[i / CASES];
+        doing = cases[i % CASES].name;
+        wrong = 0;
+        cases[i % CASES].run();
+        passed += !wrong;
+        failed += wrong;
+    }
     printf("cases: %d passed, %d failed\n", passed, failed);
     return failed != 0;
 }

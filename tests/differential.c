@@ -1,6 +1,6 @@
 /* The library against the plain search, over chance maps of every kind, with fixed seeds.
  *
- *   CALLS=N   go on for at least N calls (639,000 if not said)
+ *   CALLS=N   go on for at least N calls (655,000 if not said)
  *   SEED=N    other maps than the usual ones
  *   FIRST=1   end at the first part that fails
  *   TIGHT=1   no guard words, memory ends where tables end: for a run under a checker of memory */
@@ -21,7 +21,7 @@ static const struct {
     { "orders", part_orders, 1 },       { "lengths", part_lengths, 1 },     { "room", part_room, 1 },
     { "hubs", part_hubs, 1 },           { "large", part_large, 3 },         { "full", part_full, 15 },
     { "great fans", part_great_fans, 15 }, { "pairs", part_pairs, 1 },   { "several", part_several, 1 },
-    { "windows", part_windows, 1 },     { "bounds", part_bounds, 1 },
+    { "windows", part_windows, 1 },     { "bounds", part_bounds, 1 },       { "sheets", part_sheets, 1 },
 };
 
 enum { PARTS = sizeof parts / sizeof *parts };
@@ -70,6 +70,12 @@ static void report(void)
     printf("differential: points: outside or unlabelled %llu, labelled %llu, on a line %llu, off the grid %llu\n",
            (unsigned long long)met.answers[ANSWER_NONE], (unsigned long long)met.answers[ANSWER_LABEL],
            (unsigned long long)met.answers[ANSWER_ON_LINE], (unsigned long long)met.answers[ANSWER_OFF_GRID]);
+    printf("differential: points on no line: a label from below %llu, of these 0 with another above %llu; from above %llu, of these "
+           "under a west end %llu, under two lines from one %llu; from neither %llu, of these under an east end %llu\n",
+           (unsigned long long)met.ways[FROM_BELOW], (unsigned long long)met.ways[BELOW_IS_0],
+           (unsigned long long)met.ways[FROM_ABOVE], (unsigned long long)met.ways[UNDER_WEST_END],
+           (unsigned long long)met.ways[UNDER_FORK], (unsigned long long)met.ways[FROM_NEITHER],
+           (unsigned long long)met.ways[UNDER_EAST_END]);
     printf("differential: %llu calls on sound maps, of %.1f lines on average, %llu at most\n",
            (unsigned long long)met.sound_calls, (double)met.live_lines / (double)(met.sound_calls + 1),
            (unsigned long long)met.most_lines);
@@ -86,12 +92,12 @@ int none_of(const uint64_t *counts, size_t many)
     return none;
 }
 
-/* A refusal, a kind, a way to touch a window or a turn at the range's ends that never came back was not tested: then the
- * run has failed, though nothing differed. */
+/* A refusal, a kind, a way to find a label, a way to touch a window or a turn at the range's ends that never came back was not
+ * tested: then the run has failed, though nothing differed. */
 static int never_seen(void)
 {
     int none = report_kinds() + report_windows() + report_bounds() + none_of(met.refusals, REFUSALS)
-        + none_of(met.kinds + 1, KINDS - 1);
+        + none_of(met.kinds + 1, KINDS - 1) + none_of(met.ways, WAYS);
 
     if (none > 0)
         printf("differential: %d of the counts above are 0, and none may be\n", none);
@@ -100,7 +106,7 @@ static int never_seen(void)
 
 int main(void)
 {
-    uint64_t wanted = setting("CALLS", 639000), first_seed = setting("SEED", 1), round;
+    uint64_t wanted = setting("CALLS", 655000), first_seed = setting("SEED", 1), round;
     int most_failures = setting("FIRST", 0) != 0 ? 1 : PARTS, unseen;
 
     for (round = 0; met.calls < wanted && failures() < most_failures; round++)

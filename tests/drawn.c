@@ -161,7 +161,7 @@ static void near_line(size_t at, uint16_t *x, uint16_t *y)
     if (one_in(2))
         *y = on_grid(*y + between(-1, 1));
     else if (one_in(2))
-        *y = on_grid(*y + between(0, frame.side + 1));
+        *y = on_grid(*y + between(-frame.side - 1, frame.side + 1));
 }
 
 static void any_point(uint16_t *x, uint16_t *y)
@@ -172,7 +172,7 @@ static void any_point(uint16_t *x, uint16_t *y)
     if (at >= 0)
         near_line((size_t)at, x, y);
     else if (one_in(4))
-        *y = LAST;
+        *y = one_in(2) ? LAST : 0;
     if (one_in(40))
         *x = off_grid();
     if (one_in(40))
@@ -602,7 +602,7 @@ void part_crowd(void)
 }
 
 /* Deep: upright lines a step apart make long columns of smallest leaves. What a point above them is answered lies
- * under them all, or is not there. */
+ * under them all, and what one under them is answered above them all; or it is not there. */
 
 /* Two poles from the same height, one step apart, sometimes with a gap in one of them. */
 static void put_poles(uint16_t x, uint16_t foot, uint16_t length)
@@ -625,14 +625,23 @@ static void put_floor(uint16_t x, uint16_t foot)
            on_grid(foot - between(1, 200)), any_label(), any_label());
 }
 
-static void ask_above(uint16_t x, uint16_t foot, uint16_t length)
+static void put_roof(uint16_t x, uint16_t head)
+{
+    insert(on_grid(x - between(0, 300)), on_grid(head + between(1, 200)), on_grid(x + between(1, 300)),
+           on_grid(head + between(1, 200)), any_label(), any_label());
+}
+
+static void ask_above_and_below(uint16_t x, uint16_t foot, uint16_t length)
 {
     uint16_t points[2 * MOST_POINTS];
     size_t i;
 
     for (i = 0; i < 24; i++) {
         points[2 * i] = on_grid(x + between(-1, 2));
-        points[2 * i + 1] = on_grid(foot + length + between(-length, one_in(2) ? 3 : 2000));
+        if (one_in(3))
+            points[2 * i + 1] = on_grid(foot - between(0, one_in(2) ? 3 : 2000));
+        else
+            points[2 * i + 1] = on_grid(foot + length + between(-length, one_in(2) ? 3 : 2000));
     }
     locate(points, 24);
 }
@@ -646,14 +655,18 @@ void part_deep(void)
     frame.y = foot;
     frame.side = frame.reach = 10;
     begin(20, PLAIN_ROOM, PLAIN_ROOM);
-    if (!one_in(3))
+    if (one_in(2))
         put_floor(x, foot);
+    if (one_in(2))
+        put_roof(x, (uint16_t)(foot + poles * (length + 2)));
     for (i = 0; i < poles; i++) {
         put_poles(x, (uint16_t)(foot + i * (length + 2)), length);
-        ask_above(x, foot, (uint16_t)((i + 1) * (length + 2)));
+        ask_above_and_below(x, foot, (uint16_t)((i + 1) * (length + 2)));
     }
-    put_floor(x, foot);
-    ask_above(x, foot, (uint16_t)(poles * (length + 2)));
+    if (one_in(2))
+        put_floor(x, foot);
+    put_roof(x, (uint16_t)(foot + poles * (length + 2)));
+    ask_above_and_below(x, foot, (uint16_t)(poles * (length + 2)));
     live_on(8, draw_anyhow);
 }
 

@@ -412,17 +412,86 @@ static void compare_answers(size_t answers_len)
         differ("the point list, or a word beside it, was written");
 }
 
+/* How a label was found, by arithmetic of its own: how far a line passes over a point is -turn / run. */
+
+static int64_t run(const struct plain_line *l)
+{
+    return l->east.x - l->west.x;
+}
+
+static int64_t turn(const struct plain_line *l, int64_t x, int64_t y)
+{
+    return run(l) * (y - l->west.y) - (l->east.y - l->west.y) * (x - l->west.x);
+}
+
+struct seen {
+    int below, east_end, fork;           /* some line below; an east end above; two lowest above, with two labels */
+    const struct plain_line *lowest;     /* of those above */
+};
+
+/* Takes in one line over the point. */
+static void see_above(struct seen *seen, const struct plain_line *l, int64_t x, int64_t y)
+{
+    const struct plain_line *low = seen->lowest;
+    int64_t nearer = low == NULL ? 1 : turn(l, x, y) * run(low) - turn(low, x, y) * run(l);
+
+    if (nearer < 0)
+        return;
+    seen->fork = nearer == 0 && (seen->fork || l->lower != low->lower);
+    seen->lowest = l;
+}
+
+static struct seen see_lines(int64_t x, int64_t y)
+{
+    struct seen seen = { 0, 0, 0, NULL };
+    size_t i;
+
+    for (i = 0; i < map.plain.count; i++) {
+        const struct plain_line *l = &map.plain.list[i];
+
+        if (run(l) == 0 || x < l->west.x || x > l->east.x)
+            continue;
+        if (x == l->east.x)
+            seen.east_end |= l->east.y > y;
+        else if (turn(l, x, y) > 0)
+            seen.below = 1;
+        else
+            see_above(&seen, l, x, y);
+    }
+    return seen;
+}
+
+static void count_way(uint16_t x, uint16_t y, uint32_t answer)
+{
+    struct seen seen = see_lines(2 * (int64_t)x + 1, 2 * (int64_t)y + 1);
+
+    if (seen.below) {
+        met.ways[FROM_BELOW]++;
+        met.ways[BELOW_IS_0] += answer == 0 && seen.lowest != NULL && seen.lowest->lower != 0;
+    } else if (seen.lowest != NULL) {
+        met.ways[FROM_ABOVE]++;
+        met.ways[UNDER_WEST_END] += seen.lowest->west.x == 2 * (int64_t)x + 1;
+        met.ways[UNDER_FORK] += (uint64_t)seen.fork;
+    } else {
+        met.ways[FROM_NEITHER]++;
+        met.ways[UNDER_EAST_END] += (uint64_t)seen.east_end;
+    }
+}
+
 static void count_answers(size_t answers_len)
 {
+    const uint16_t *points = lists.points[1].entries;
     uint32_t a;
     size_t i;
 
     for (i = 0; i < answers_len; i++) {
         memcpy(&a, lists.answers[1].entries + 2 * i, sizeof a);
-        if (a < 65536)
+        if (a < 65536) {
             met.answers[a == 0 ? ANSWER_NONE : ANSWER_LABEL]++;
-        else
+            count_way(points[2 * i], points[2 * i + 1], a);
+        } else {
             met.answers[a == UINT32_MAX ? ANSWER_OFF_GRID : ANSWER_ON_LINE]++;
+        }
     }
 }
 

@@ -66,6 +66,14 @@ void fail(const char *what);
 /* What was met on the way: it tells whether a test asked for anything at all. */
 enum { ANSWER_NONE, ANSWER_LABEL, ANSWER_ON_LINE, ANSWER_OFF_GRID, ANSWERS };
 
+/* How a point on no line came by its answer; the first of a row counts those of the others too. */
+enum {
+    FROM_BELOW, BELOW_IS_0,                     /* that label is 0, and a line above has another */
+    FROM_ABOVE, UNDER_WEST_END, UNDER_FORK,     /* two lines from one west end, with two labels */
+    FROM_NEITHER, UNDER_EAST_END,
+    WAYS
+};
+
 /* How many numbers a kind of conflict can have, with 0 for no conflict. */
 enum { KINDS = 5 };
 
@@ -77,6 +85,7 @@ extern struct met {
     uint64_t refusals[REFUSALS];         /* how often each number from 0 to 10 came back */
     uint64_t kinds[KINDS];               /* of the refusals 5, how often each kind from 1 to 4 was told */
     uint64_t answers[ANSWERS];           /* of locate, by kind */
+    uint64_t ways[WAYS];                 /* of points on no line, by how their answers were found */
     uint64_t sound_calls, live_lines;    /* calls on sound maps, and the lines these had, summed up */
     uint64_t most_lines;
 } met;

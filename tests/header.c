@@ -1,6 +1,6 @@
 /* The installed header beside the library that is linked: it declares the calls as the tests do, or this does not
- * compile; both are of one version; its check of a map tells a sound one from a damaged one; it tells how lines conflict
- * and why a window is refused; and a map lent longer goes on. */
+ * compile; both are of one version; its check of a map tells a sound one from a damaged one; it tells what a point is
+ * answered, how lines conflict and why a window is refused; and a map lent longer goes on. */
 #include "library.h"
 
 #include "../include/boundary_map.h"
@@ -17,7 +17,7 @@ static struct boundary_map map = { lines, BOUNDARY_MAP_LINES_LEN(2), nodes, 64, 
 static void version(void)
 {
     EXPECT(boundary_map_version() == BOUNDARY_MAP_VERSION_NUMBER);
-    EXPECT(BOUNDARY_MAP_VERSION_NUMBER == 4000);
+    EXPECT(BOUNDARY_MAP_VERSION_NUMBER == 5000);
 }
 
 static void check_tells(void)
@@ -47,6 +47,21 @@ static void after_damage(void)
     EXPECT(boundary_map_start(BOUNDARY_MAP_LENT(&map)) == 0);
     EXPECT(boundary_map_insert(BOUNDARY_MAP_LENT(&map), kept[0], kept[1], kept[2], kept[3], kept[4], kept[5]) == 1);
     EXPECT(boundary_map_check(&map) == BOUNDARY_MAP_DONE);
+}
+
+/* The level line across the map is in slot 0, with 7 above it and 9 below. Over and under its east end no line counts. */
+static void answers_told(void)
+{
+    const uint16_t points[12] = { 5, 9000, 5, 8000, 5, 7999, 16383, 9000, 16383, 7999, 5, 16384 };
+    uint32_t answers[6] = { 1, 1, 1, 1, 1, 1 };
+
+    EXPECT(boundary_map_locate(BOUNDARY_MAP_LENT(&map), points, 12, answers, 6) == 0);
+    EXPECT(boundary_map_is_label(answers[0]) && boundary_map_answer_label(answers[0]) == 7);
+    EXPECT(boundary_map_is_on_line(answers[1]) && boundary_map_answer_slot(answers[1]) == 0);
+    EXPECT(boundary_map_is_label(answers[2]) && boundary_map_answer_label(answers[2]) == 9);
+    EXPECT(boundary_map_is_label(answers[3]) && boundary_map_answer_label(answers[3]) == 0);
+    EXPECT(boundary_map_is_label(answers[4]) && boundary_map_answer_label(answers[4]) == 0);
+    EXPECT(boundary_map_is_off_grid(answers[5]));
 }
 
 /* A label changed leaves a sound map, as the header has it of rule 5. */
@@ -116,6 +131,7 @@ int main(void)
     version();
     check_tells();
     after_damage();
+    answers_told();
     label_changed();
     conflicts_told();
     windows_told();

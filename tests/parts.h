@@ -38,6 +38,9 @@ void part_windows(void);
 /* Prints what windows came to, those that other parts asked for too, and says how many things were never seen. */
 int report_windows(void);
 
+/* sheets.c: ditches across a sheet, and land south of them */
+void part_sheets(void);
+
 /* bounds.c: the least and the greatest coordinates */
 void part_bounds(void);
 /* Prints what it met of the greatest turns and the least, and says how many things it never met. */

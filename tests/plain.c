@@ -1,4 +1,4 @@
-/* See plain.h. Written from document 01 alone; shares no code with the library. */
+/* See plain.h. Written from documents 01 and 02 alone; shares no code with the library. */
 #include "plain.h"
 
 #include <string.h>
@@ -112,6 +112,7 @@ static struct plain_line make_line(size_t slot, uint16_t x1, uint16_t y1, uint16
     l.west = eastward ? one : two;
     l.east = eastward ? two : one;
     l.upper = x1 < x2 ? left : right;
+    l.lower = x1 < x2 ? right : left;
     return l;
 }
 
@@ -643,11 +644,6 @@ static int on_line(const struct plain_line *l, struct plain_place at)
     return compare_whole(height(l, at.x), at.y) == 0;
 }
 
-static int passes_below(const struct plain_line *l, struct plain_place at)
-{
-    return !upright(l) && l->west.x <= at.x && at.x < l->east.x && compare_whole(height(l, at.x), at.y) < 0;
-}
-
 static struct fraction slope(const struct plain_line *l)
 {
     struct fraction f;
@@ -657,18 +653,40 @@ static struct fraction slope(const struct plain_line *l)
     return f;
 }
 
-/* Whether a goes before b at this x: higher, or as high and rising more steeply. */
-static int before(const struct plain_line *a, const struct plain_line *b, int64_t x)
-{
-    int higher = compare(height(a, x), height(b, x));
+/* Where a line passes a point: as its height there compares with the point's. */
+enum side { BELOW = -1, ABOVE = 1 };
 
-    return higher > 0 || (higher == 0 && compare(slope(a), slope(b)) > 0);
+static int passes(const struct plain_line *l, struct plain_place at, enum side side)
+{
+    return !upright(l) && l->west.x <= at.x && at.x < l->east.x
+        && compare_whole(height(l, at.x), at.y) == (int)side;
+}
+
+/* How two lines compare at this x: by their heights, and where these are equal by what comes next to the east. Lines without a
+ * conflict are of equal height at a common west end alone, as no line counts at its east end. */
+static int compare_lines(const struct plain_line *a, const struct plain_line *b, int64_t x)
+{
+    int by_height = compare(height(a, x), height(b, x));
+
+    return by_height != 0 ? by_height : compare(slope(a), slope(b));
+}
+
+/* Of the lines that pass the point on one side the nearest: the highest of those below, the lowest of those above. */
+static const struct plain_line *nearest(const struct plain *p, struct plain_place at, enum side side)
+{
+    const struct plain_line *best = NULL;
+    size_t i;
+
+    for (i = 0; i < p->count; i++)
+        if (passes(&p->list[i], at, side) && (best == NULL || compare_lines(best, &p->list[i], at.x) == (int)side))
+            best = &p->list[i];
+    return best;
 }
 
 static uint32_t locate_one(const struct plain *p, uint16_t x, uint16_t y)
 {
     struct plain_place at = on_half_steps(x, y);
-    const struct plain_line *best = NULL;
+    const struct plain_line *below, *above;
     size_t i;
 
     if (off_grid(x, y, 0, 0))
@@ -676,10 +694,11 @@ static uint32_t locate_one(const struct plain *p, uint16_t x, uint16_t y)
     for (i = 0; i < p->count; i++)
         if (on_line(&p->list[i], at))
             return 65536 + (uint32_t)p->list[i].slot;
-    for (i = 0; i < p->count; i++)
-        if (passes_below(&p->list[i], at) && (best == NULL || before(&p->list[i], best, at.x)))
-            best = &p->list[i];
-    return best == NULL ? 0 : best->upper;
+    below = nearest(p, at, BELOW);
+    if (below != NULL)
+        return below->upper;
+    above = nearest(p, at, ABOVE);
+    return above != NULL ? above->lower : 0;
 }
 
 uint64_t plain_locate(struct plain *p, const uint16_t *points, size_t points_len, uint32_t *answers,

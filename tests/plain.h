@@ -1,11 +1,11 @@
-/* The plain list search: what document 01 says of every call, done the slow way and apart from the library.
+/* The plain list search: what documents 01 and 02 say of every call, done the slow way and apart from the library.
  *
  * It keeps a list of the live lines and looks through all of it, every time. All geometry is done with one
  * notion only, the height of a line at a given x, as an exact fraction; there is no turn of three points in it.
  * The tree is built from the whole map down by the rule's own words, with every line asked at every block.
  *
  * It takes any tables whatever and, as the library does, either refuses and leaves all as it was, or does
- * the call and leaves every entry as document 01 says. */
+ * the call and leaves every entry as the documents say. */
 #ifndef TESTS_PLAIN_H
 #define TESTS_PLAIN_H
 
@@ -25,7 +25,7 @@ struct plain_place {
 struct plain_line {
     uint16_t slot;
     struct plain_place west, east;   /* the two ends; of an upright line the south end is called west */
-    uint16_t upper;                  /* the label above it */
+    uint16_t upper, lower;           /* the labels above it and below it; an upright line has none, and they say nothing */
 };
 
 /* Whether the tables are sound, once found out, holds until somebody writes to them. */

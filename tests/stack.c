@@ -19,8 +19,8 @@ static uint16_t slots[BOUNDARY_MAP_SLOTS_MAX];
 
 static void *all_calls(void *nothing)
 {
-    const uint16_t points[4] = { 0, 0, FAN_HUB + 900, FAN_HUB - 10 };
-    uint32_t answers[2] = { 9, 9 };
+    const uint16_t points[6] = { 0, 0, FAN_HUB + 900, FAN_HUB - 10, FAN_HUB + 900, 0 };
+    uint32_t answers[3] = { 9, 9, 9 };
     unsigned slot, inserted = 0;
 
     EXPECT(boundary_map_start(BOUNDARY_MAP_LENT(&map)) == 0);
@@ -28,9 +28,10 @@ static void *all_calls(void *nothing)
         inserted += insert_ray(&map, ray_of[slot]) == boundary_map_handle((uint16_t)slot, 1);
     EXPECT(inserted == FAN_RAYS);
     EXPECT(boundary_map_insert(BOUNDARY_MAP_LENT(&map), 0, 0, 0, 1, 1, 2) == boundary_map_handle(FAN_RAYS, 1));
-    EXPECT(boundary_map_locate(BOUNDARY_MAP_LENT(&map), points, 4, answers, 2) == 0);
+    EXPECT(boundary_map_locate(BOUNDARY_MAP_LENT(&map), points, 6, answers, 3) == 0);
     EXPECT(boundary_map_is_on_line(answers[0]) && boundary_map_answer_slot(answers[0]) == FAN_RAYS);
     EXPECT(boundary_map_is_label(answers[1]));
+    EXPECT(answers[2] == 2);             /* under all rays: the label below the lowest */
     EXPECT(boundary_map_window(BOUNDARY_MAP_LENT(&map), 0, 0, BOUNDARY_MAP_GRID_MAX, BOUNDARY_MAP_GRID_MAX, slots,
                                BOUNDARY_MAP_SLOTS_MAX) == FAN_RAYS + 1);
     EXPECT(slots[0] == 0 && slots[FAN_RAYS] == FAN_RAYS);

@@ -579,6 +579,11 @@ static uint32_t upper_label(const uint16_t *l)
     return l[X1] < l[X2] ? l[LEFT] : l[RIGHT];
 }
 
+static uint32_t lower_label(const uint16_t *l)
+{
+    return l[X1] < l[X2] ? l[RIGHT] : l[LEFT];
+}
+
 static const uint16_t *east_end(const uint16_t *l)
 {
     return l[X1] < l[X2] ? l + X2 : l + X1;
@@ -652,26 +657,184 @@ static void narrow_turns_miss_line(struct tables t, const uint16_t *point, uint3
     }
 }
 
-/* A label is given only where the point's own leaf lists some line. */
-static void look_in_own_leaf(struct tables t, const uint16_t *point, uint32_t *found)
+/* The node of the leaf that holds the point, and how many are listed before it. */
+static size_t own_leaf(struct tables t, const uint16_t *point, size_t *listed)
 {
     long x = 2 * (long)point[0] + 1, y = 2 * (long)point[1] + 1, west = 0, south = 0, half = 16384;
-    size_t at = 0, listed = 0;
+    size_t at = 0;
     int sons;
 
-    if (!is_label(*found))
-        return;
-    for (; t.nodes[at] == DIVIDED; half /= 2) {
+    for (*listed = 0; t.nodes[at] == DIVIDED; half /= 2) {
         int is_east = x > west + half, is_north = y > south + half;
 
         at++;
         for (sons = (is_north ? 0 : 2) + (is_east ? 1 : 0); sons > 0; sons--)
-            at = past_block(t, at, &listed);
+            at = past_block(t, at, listed);
         west += is_east ? half : 0;
         south += is_north ? half : 0;
     }
-    if (t.nodes[at] == 0)
+    return at;
+}
+
+/* A label is given only where the point's own leaf lists some line. */
+static void look_in_own_leaf(struct tables t, const uint16_t *point, uint32_t *found)
+{
+    size_t listed;
+
+    if (is_label(*found) && t.nodes[own_leaf(t, point, &listed)] == 0)
         *found = 0;
+}
+
+/* The side of the point on which a line counts: 1 below, -1 above, 0 neither. */
+static int side_of(const uint16_t *l, const uint16_t *point)
+{
+    const uint16_t *from = west_end(l), *to = east_end(l);
+    const uint16_t line[8] = { 1, 1, from[0], from[1], to[0], to[1], 0, 0 };
+    long long t = turn(line, point[0], point[1]);
+
+    if (l[LIVE] != 1 || point[0] < from[0] || point[0] >= to[0])
+        return 0;
+    return (t > 0) - (t < 0);
+}
+
+static int some_below(struct tables t, const uint16_t *point)
+{
+    size_t i;
+
+    for (i = 0; i < slots(t); i++)
+        if (side_of(slot_at(t, i), point) > 0)
+            return 1;
+    return 0;
+}
+
+static long long run_of(const uint16_t *l)
+{
+    return east_end(l)[0] - west_end(l)[0];
+}
+
+static long long rise_of(const uint16_t *l)
+{
+    return east_end(l)[1] - west_end(l)[1];
+}
+
+/* How much higher a is than b at x, times both runs. */
+static long long higher_by(const uint16_t *a, const uint16_t *b, long long x)
+{
+    return ((long long)west_end(a)[1] * run_of(a) + (x - west_end(a)[0]) * rise_of(a)) * run_of(b)
+        - ((long long)west_end(b)[1] * run_of(b) + (x - west_end(b)[0]) * rise_of(b)) * run_of(a);
+}
+
+static long long steeper_by(const uint16_t *a, const uint16_t *b)
+{
+    return rise_of(a) * run_of(b) - rise_of(b) * run_of(a);
+}
+
+static int lower_there(const uint16_t *a, const uint16_t *b, long long x)
+{
+    return higher_by(a, b, x) < 0 || (higher_by(a, b, x) == 0 && steeper_by(a, b) < 0);
+}
+
+static int lower_or_steeper(const uint16_t *a, const uint16_t *b, long long x)
+{
+    return higher_by(a, b, x) < 0 || (higher_by(a, b, x) == 0 && steeper_by(a, b) > 0);
+}
+
+static int begins_lower(const uint16_t *a, const uint16_t *b, long long x)
+{
+    return west_end(a)[1] < west_end(b)[1] || (west_end(a)[1] == west_end(b)[1] && lower_there(a, b, x));
+}
+
+/* Of the lines above the point the first by this order; NULL if there is none. */
+static const uint16_t *first_above(struct tables t, const uint16_t *point,
+                                   int (*before)(const uint16_t *, const uint16_t *, long long))
+{
+    const uint16_t *first = NULL;
+    size_t i;
+
+    for (i = 0; i < slots(t); i++) {
+        const uint16_t *l = slot_at(t, i);
+
+        if (side_of(l, point) < 0 && (first == NULL || before(l, first, point[0])))
+            first = l;
+    }
+    return first;
+}
+
+/* The line above that answers, by this order; NULL if the point is on a line or off the grid, or some line counts below. */
+static const uint16_t *answers_from_above(struct tables t, const uint16_t *point, uint32_t found,
+                                          int (*before)(const uint16_t *, const uint16_t *, long long))
+{
+    return is_label(found) && !some_below(t, point) ? first_above(t, point, before) : NULL;
+}
+
+/* Of a line above that is drawn westward the upper label is told. */
+static void upper_of_westward(struct tables t, const uint16_t *point, uint32_t *found)
+{
+    const uint16_t *l = answers_from_above(t, point, *found, lower_there);
+
+    if (l != NULL && l[X1] > l[X2])
+        *found = upper_label(l);
+}
+
+/* Of the lines above the one whose west end is lowest, wherever they pass the point's x. */
+static void take_lowest_west_end(struct tables t, const uint16_t *point, uint32_t *found)
+{
+    const uint16_t *l = answers_from_above(t, point, *found, begins_lower);
+
+    if (l != NULL)
+        *found = lower_label(l);
+}
+
+/* Of two lines with one west end straight above, the one that rises more. */
+static void take_steeper_above(struct tables t, const uint16_t *point, uint32_t *found)
+{
+    const uint16_t *l = answers_from_above(t, point, *found, lower_or_steeper);
+
+    if (l != NULL)
+        *found = lower_label(l);
+}
+
+/* Where no line counts, one that ends straight above does. */
+static void count_east_end_above(struct tables t, const uint16_t *point, uint32_t *found)
+{
+    size_t i;
+
+    if (!is_label(*found) || some_below(t, point) || first_above(t, point, lower_there) != NULL)
+        return;
+    for (i = 0; i < slots(t); i++) {
+        const uint16_t *l = slot_at(t, i);
+
+        if (l[LIVE] == 1 && l[X1] != l[X2] && east_end(l)[0] == point[0] && east_end(l)[1] > point[1])
+            *found = lower_label(l);
+    }
+}
+
+/* Where the label below is 0, the line above is asked. */
+static void ask_above_0(struct tables t, const uint16_t *point, uint32_t *found)
+{
+    const uint16_t *l = first_above(t, point, lower_there);
+
+    if (*found == 0 && l != NULL && some_below(t, point))
+        *found = lower_label(l);
+}
+
+/* A line above that the point's own leaf lists answers, though it passes the point's x north of the leaf and another passes lower. */
+static void take_own_leaf_above(struct tables t, const uint16_t *point, uint32_t *found)
+{
+    const uint16_t *first = NULL;
+    size_t listed, i, at;
+
+    if (answers_from_above(t, point, *found, lower_there) == NULL)
+        return;
+    at = own_leaf(t, point, &listed);
+    for (i = 0; i < t.nodes[at]; i++) {
+        const uint16_t *l = slot_at(t, t.listings[listed + i]);
+
+        if (side_of(l, point) < 0 && (first == NULL || lower_there(l, first, point[0])))
+            first = l;
+    }
+    if (first != NULL)
+        *found = lower_label(first);
 }
 
 static void off_grid_is_outside(struct tables t, const uint16_t *point, uint32_t *found)
@@ -711,6 +874,36 @@ static uint64_t highest_slot_on_line(struct tables t, struct lists s)
 static uint64_t own_leaf_only(struct tables t, struct lists s)
 {
     return locate_with(t, s, look_in_own_leaf);
+}
+
+static uint64_t westward_gives_upper_label(struct tables t, struct lists s)
+{
+    return locate_with(t, s, upper_of_westward);
+}
+
+static uint64_t lowest_west_end_taken(struct tables t, struct lists s)
+{
+    return locate_with(t, s, take_lowest_west_end);
+}
+
+static uint64_t steeper_line_taken(struct tables t, struct lists s)
+{
+    return locate_with(t, s, take_steeper_above);
+}
+
+static uint64_t east_end_counts_above(struct tables t, struct lists s)
+{
+    return locate_with(t, s, count_east_end_above);
+}
+
+static uint64_t above_asked_where_0(struct tables t, struct lists s)
+{
+    return locate_with(t, s, ask_above_0);
+}
+
+static uint64_t own_leaf_first(struct tables t, struct lists s)
+{
+    return locate_with(t, s, take_own_leaf_above);
 }
 
 static uint64_t narrow_turns_locate(struct tables t, struct lists s)
@@ -1128,6 +1321,12 @@ static const struct planted plants[] = {
     { "the flatter of two lines from one west end", ON_LOCATE(flatter_line_taken) },
     { "not the lowest slot where lines share an end", ON_LOCATE(highest_slot_on_line) },
     { "labels looked for in the point's own leaf only", ON_LOCATE(own_leaf_only) },
+    { "the upper label of a line above that is drawn westward", ON_LOCATE(westward_gives_upper_label) },
+    { "of the lines above the one that begins lowest", ON_LOCATE(lowest_west_end_taken) },
+    { "the steeper of two lines from one west end above", ON_LOCATE(steeper_line_taken) },
+    { "the east end counted above", ON_LOCATE(east_end_counts_above) },
+    { "a line above asked where the label below is 0", ON_LOCATE(above_asked_where_0) },
+    { "a line above in the point's own leaf, though another is lower", ON_LOCATE(own_leaf_first) },
     { "a line below not seen where its turn is the greatest", ON_LOCATE(narrow_turns_locate) },
     { "0 for a point off the grid", ON_LOCATE(off_grid_answers_0) },
     { "an answer written on refusal", ON_LOCATE(answers_when_refused) },
