@@ -1,4 +1,5 @@
-// The answers to points: a walk of the column of leaves over each; where that costs more than walks have earned, a plain search.
+// The answers to points: from the leaf that holds each, a walk of its column of leaves south and, if nothing counts there, north; where
+// that costs more than walks have earned, plain searches.
 use column::go_down;
 use column::scan_leaf;
 use column::settled;
@@ -28,9 +29,10 @@ ghost use Rattle.lookup.specs.Asked.{Ready, Room, Counting, ToldBy, Foun
 
 // Walks are paid for, so that a list of points takes at most about a third longer than plain searches of all live lines would, and
 // half on small maps made against it.
-// One is paid for about the time that a plain search takes over 2 lines: a walk costs START to begin with, LEAF for each leaf and
-// 2 for each line of a leaf, since most lines there have to be compared. A point brings half the live lines if its walk answers,
-// an eighth if a plain search has to, and nothing with fewer than 32: they are searched plainly as a rule. At most MOST is kept.
+// One is paid for about the time that a plain search takes over 2 lines: START for each point that is walked for, LEAF for each leaf on
+// either way and 2 for each line of a leaf, since most lines there have to be compared. A way brings half the live lines if it is walked
+// to its end, an eighth if a plain search has to take it, and nothing with fewer than 32: they are searched plainly as a rule. At most
+// MOST is kept.
 const START: usize = 16;
 
 const LEAF: usize = 4;

@@ -1,4 +1,4 @@
--- The column of leaves over a point: what was seen down to a height, and when it is enough.
+-- The column of leaves over a point: what was seen on the way south or north as far as a side, and when it is enough.
 use mathlib.Core.Path.{_≡_, refl, sym, _∙_, ap, subst}
 use mathlib.Core.Logic.{_↔_, _⊎_, inl, inr}
 use mathlib.Core.Bool.{Bool, true, false}

@@ -50,7 +50,7 @@ pub fn strip_of(p: Point, k: Block) -> Strip
 
 // The lower son's place among the four entries of the index is 2 after that of the upper.
 pub fn entry_of(entry: usize, upper: bool) -> usize
-    requires { ⌜ entry + 2 < 65538 ⌝ }
+    requires { ⌜ entry < 65536 ⌝ }
     ensures { λ r. ⌜ SonEntry entry upper r ⌝ }
 {
     if upper { entry } else { entry + 2 }
