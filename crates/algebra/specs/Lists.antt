@@ -32,6 +32,7 @@ module _ {A : Type 0} (p : A → Bool) where
   every_no a more e = rw (e, every) refl
 
   pub in_those : {x : A} (xs : List A) → Memᴰ x xs → p x ≡ true → Memᴰ x (those p xs)
+  in_those [] m h = absurd (Memᴰ.not-nil m)
   in_those (a ∷ more) (Memᴰ.head e) h = rw (those_yes a more (ap p (sym e) ∙ h)) (Memᴰ.head e)
   in_those {x} (a ∷ more) (Memᴰ.tail m) h = go (p a) refl (in_those more m h)
     where
@@ -53,6 +54,7 @@ module _ {A : Type 0} (p : A → Bool) where
       go false e k = let n = k (rw (those_no a more e) at m) in (Memᴰ.tail n.0, n.1)
 
   pub every→ : {x : A} (xs : List A) → every p xs ≡ true → Memᴰ x xs → p x ≡ true
+  every→ [] e m = absurd (Memᴰ.not-nil m)
   every→ {x} (a ∷ more) e (Memᴰ.head f) = go (p a) refl
     where
       go : (t : Bool) → p a ≡ t → p x ≡ true

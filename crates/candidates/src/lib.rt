@@ -1,4 +1,6 @@
 // The candidates of a block, spread to its four sons.
+#![tactic(auto)]
+
 ghost use Rattle.std.specs.Prelude.{◌≡◌, ◌≤◌};
 ghost use Rattle.geometry.specs.Means.{block_of};
 ghost use Rattle.candidates.specs.Spread.{digit, Spreadable, Spread};
@@ -7,7 +9,7 @@ use geometry::{Block, sons_met};
 use tables::line_at;
 
 // Candidates: the slots from..to of a list of slots, which is free from `free` on.
-#[derive(Drop)]
+#[derive(Clone, Copy)]
 pub struct Span {
     pub from: usize,
     pub to: usize,
@@ -15,7 +17,7 @@ pub struct Span {
 }
 
 // The candidates of the four sons.
-#[derive(Drop)]
+#[derive(Clone, Copy)]
 pub struct Spans {
     pub nw: Span,
     pub ne: Span,

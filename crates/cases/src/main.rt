@@ -1,4 +1,6 @@
 // The paper's cases, and small trees, lookups and windows worked out by hand, run on the proved library.
+#![tactic(auto)]
+
 mod above;
 mod paper;
 mod points;

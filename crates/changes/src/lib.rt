@@ -1,4 +1,6 @@
 // The inner steps of insert and delete: a map that has passed the tests is changed, and is sound again.
+#![tactic(auto)]
+
 ghost use Rattle.std.specs.Prelude.{◌≡◌};
 ghost use Rattle.definitions.specs.Tree.{base_rule};
 ghost use Rattle.definitions.specs.Calls.{with_slot, rebuilt, freed, insert_of};

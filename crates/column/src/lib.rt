@@ -1,4 +1,6 @@
 // The column of leaves over a point, from its own leaf south or north: where a walk of it stands, and what each leaf adds.
+#![tactic(auto)]
+
 ghost use Rattle.std.specs.Prelude.{◌≡◌, ◌+◌, ◌*◌, ◌≤◌, ◌<◌, length};
 ghost use Rattle.geometry.specs.Means.{block_of};
 ghost use Rattle.meaning.specs.Column.{far};

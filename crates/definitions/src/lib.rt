@@ -1,21 +1,22 @@
 // The declared types that the definitions of specs/ and the calls speak of. No function stands here.
+#![tactic(auto)]
 
 // A grid number, 0 to 16,383.
-#[derive(Drop)]
+#[derive(Clone, Copy)]
 pub struct Grid(pub u16);
 
 // A half-step number, 0 to 32,768: grid number g stands at half-step 2g + 1.
-#[derive(Drop)]
+#[derive(Clone, Copy)]
 pub struct Half(pub u16);
 
-#[derive(Drop)]
+#[derive(Clone, Copy)]
 pub struct Point {
     pub x: Half,
     pub y: Half,
 }
 
 // A line as the caller of insert gives it: four coordinates and two labels, any 16-bit numbers.
-#[derive(Drop)]
+#[derive(Clone, Copy)]
 pub struct Given {
     pub x1: u16,
     pub y1: u16,
@@ -26,7 +27,7 @@ pub struct Given {
 }
 
 // A rectangle as the caller of window gives it: four coordinates, any 16-bit numbers.
-#[derive(Drop)]
+#[derive(Clone, Copy)]
 pub struct Window {
     pub west: u16,
     pub south: u16,
@@ -35,7 +36,7 @@ pub struct Window {
 }
 
 // How two lines conflict.
-#[derive(Drop)]
+#[derive(Clone, Copy)]
 pub enum Kind {
     Crossing,
     Touching,
@@ -44,7 +45,7 @@ pub enum Kind {
 }
 
 // What a call answers: done with its detail, or a refusal.
-#[derive(Drop)]
+#[derive(Clone, Copy)]
 pub enum Answer {
     Done(u32),
     Lengths,
@@ -60,7 +61,7 @@ pub enum Answer {
 }
 
 // What show leaf tells: the leaf's side and south-west corner in half-steps, all 0 on refusal.
-#[derive(Drop)]
+#[derive(Clone, Copy)]
 pub struct Shown {
     pub answer: Answer,
     pub side: u16,

@@ -1,4 +1,6 @@
 // The C boundary: start, insert, delete, locate and window on numbers and lent slices. Each gives one 64-bit number. And the version.
+#![tactic(auto)]
+
 ghost use Rattle.std.specs.Prelude.{◌≡◌};
 ghost use Rattle.definitions.specs.Tree.{base_rule};
 ghost use Rattle.definitions.specs.Calls.{number_of, start_of, insert_of, delete_of};

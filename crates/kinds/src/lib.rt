@@ -1,4 +1,6 @@
 // How the line in the way conflicts. Told once, when insert is refused: the test of all pairs stays a plain yes or no.
+#![tactic(auto)]
+
 ghost use Rattle.std.specs.Prelude.{◌≡◌, true, ◌&&◌, ◌≤◌};
 ghost use Rattle.definitions.specs.Shape.{is_end, kind_of};
 ghost use Rattle.definitions.specs.Calls.{all_on_grid, kind_number, conflict_detail};

@@ -1,5 +1,7 @@
 // The answers to points: from the leaf that holds each, a walk of its column of leaves south and, if nothing counts there, north; where
 // that costs more than walks have earned, plain searches.
+#![tactic(auto)]
+
 ghost use Rattle.std.specs.Prelude.{◌≡◌, ◌+◌, ◌*◌, min, length};
 ghost use Rattle.definitions.specs.Lookup.{answer_at, answer_to, answers_to};
 ghost use Rattle.geometry.specs.Range.{End};
@@ -29,7 +31,7 @@ const LEAF: usize = 4;
 const MOST: usize = 512;
 
 // An answer, and what is left for the next walk.
-#[derive(Drop)]
+#[derive(Clone, Copy)]
 struct Reply {
     answer: u32,
     left: usize,
@@ -48,7 +50,7 @@ fn earn(left: usize, more: usize) -> usize
 }
 
 // What is found on one way: whether there is a line through the point or on the way, the answer by it, and what is left.
-#[derive(Drop)]
+#[derive(Clone, Copy)]
 struct Finding {
     some: bool,
     answer: u32,

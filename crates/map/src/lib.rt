@@ -1,4 +1,6 @@
 // The public calls: start, insert, delete, locate, show leaf and window. None has a requires.
+#![tactic(auto)]
+
 ghost use Rattle.std.specs.Prelude.{◌≡◌};
 ghost use Rattle.definitions.specs.Tree.{base_rule};
 ghost use Rattle.definitions.specs.Calls.{start_of, insert_of, delete_of};

@@ -84,6 +84,7 @@ module _ (f : ℕ → Line) where
   of_map (x ∷ xs) (Memᴰ.tail m) = let h = of_map xs m in (h.0, Memᴰ.tail h.1, h.2)
 
   pub to_map : {s : ℕ} (xs : List ℕ) → Memᴰ s xs → Memᴰ (f s) (map f xs)
+  to_map [] m = absurd (Memᴰ.not-nil m)
   to_map (x ∷ xs) (Memᴰ.head e) = Memᴰ.head (ap f e)
   to_map (x ∷ xs) (Memᴰ.tail m) = Memᴰ.tail (to_map xs m)
 
@@ -102,6 +103,7 @@ up_count i zero = done
 up_count i (suc n) = next {lo = i} {x = i} (omega arith) (up_from_lem {lo = i} {hi = suc i} (omega arith) (up_count (suc i) n))
 
 pub up_low : {lo u : ℕ} {xs : List ℕ} → Up lo xs → Memᴰ u xs → lo ≤ u
+up_low done m = absurd (Memᴰ.not-nil m)
 up_low (next {lo = lo} {x = x} h k) (Memᴰ.head e) = omega arith
 up_low {lo} {u} (next {x = x} h k) (Memᴰ.tail m) = let j : x ≤ u = up_low k m in omega arith
 

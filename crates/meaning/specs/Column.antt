@@ -62,6 +62,7 @@ unfolding listed line_at
 listed← lines k u v e = slots (those (meets k) (live_lines lines)) (in_those (meets k) (live_lines lines) (mem_live lines (half_point 0 0) u v) e)
   where
     slots : (ls : List Line) → Memᴰ (line_at lines u) ls → Memᴰ u (map (λ (l : Line). l.slot) ls)
+    slots [] m = absurd (Memᴰ.not-nil m)
     slots (l ∷ ls) (Memᴰ.head e) = Memᴰ.head (ap (λ (n : Line). n.slot) e)
     slots (l ∷ ls) (Memᴰ.tail i) = Memᴰ.tail (slots ls i)
 

@@ -1,4 +1,6 @@
 // The path from the whole map to the leaf that holds a point, and the blocks that lie beside it, over the same x.
+#![tactic(auto)]
+
 ghost use Rattle.std.specs.Prelude.{◌≡◌, ◌+◌, ◌*◌, ◌≤◌, ◌<◌, length};
 ghost use Rattle.geometry.specs.Means.{block_of};
 ghost use Rattle.path.specs.Asked.{StripOver, SonEntry, SonIs, Entered, GoneIn, PathAsked, OwnIs, went_up, TurnedOff, TurnsOff, Beside};
@@ -9,7 +11,7 @@ use tables::wide;
 use walk::put_four;
 
 // The half of a block that lies over a point: 0 for the west half, 1 for the east, and its two sons.
-#[derive(Drop)]
+#[derive(Clone, Copy)]
 pub struct Strip {
     pub which: usize,
     pub above: Block,
@@ -18,7 +20,7 @@ pub struct Strip {
 
 // A block over the point, with its node. So many places of a table are taken: of the path, by the blocks gone into before it;
 // of the table of blocks put by, by those that come after it.
-#[derive(Drop)]
+#[derive(Clone, Copy)]
 pub struct Spot {
     pub node: usize,
     pub block: Block,

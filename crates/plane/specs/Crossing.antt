@@ -1,7 +1,8 @@
 -- The computed test and the common point: `conflict l m` is true exactly if the lines share a point that is not an end of both.
 use Rattle.std.specs.Prelude.{◌≡◌, refl, ◌↔◌, ◌⊎◌, true, [], ◌∷◌, ℕ, ◌+◌, ◌*◌, ◌≤◌, ◌<◌}
 use Rattle.std.proofs.Common.{sym, ◌∙◌, inl, inr, ⊎_elim, arith, mul-pos}
-use Rattle.std.proofs.Math.Logic.{⊎_swap, Iff·trans}
+use Rattle.std.proofs.Math.Logic.Iff
+use Rattle.std.proofs.Math.Logic.{⊎_swap}
 use Rattle.std.proofs.Math.Nat.{mul-lt-mul_of_pos_left, lt_of_mul-lt-mul_left}
 use Rattle.std.proofs.Math.Decide.{ℕ_discrete}
 use Rattle.algebra.specs.Solve.{solveℕ, re}
@@ -191,4 +192,4 @@ clash_of l m pl pm (s, ol, om, f) = go (at? s l.a) (at? s l.b) (at? s m.a) (at? 
     go (inr h) (inr i) (inr j) (inr k) = inside l m pl pm ol om (⊎_elim h i) (⊎_elim j k)
 
 pub conflict_iff : (l m : Line) → Proper l → Proper m → (conflict l m ≡ true) ↔ Conflicts l m
-conflict_iff l m pl pm = Iff·trans (conflict_says l m) (spot_of_lem l m pl, clash_of l m pl pm)
+conflict_iff l m pl pm = Iff.trans (conflict_says l m) (spot_of_lem l m pl, clash_of l m pl pm)

@@ -1,7 +1,8 @@
 -- Points against points and lines: what the tests say, with a point as a spot.
 use Rattle.std.specs.Prelude.{◌≡◌, refl, ◌↔◌, ◌⊎◌, true, ◌≤◌, ◌<◌}
 use Rattle.std.proofs.Common.{sym, ◌∙◌, arith, eqb-true, eq-eqb}
-use Rattle.std.proofs.Math.Logic.{⊎_map, Iff·trans}
+use Rattle.std.proofs.Math.Logic.Iff
+use Rattle.std.proofs.Math.Logic.{⊎_map}
 use Rattle.algebra.specs.Tests.{or_cases}
 use Rattle.algebra.specs.Words.{is_zero}
 use Rattle.algebra.specs.Signs.{zero_is, zero_of_equal}
@@ -26,7 +27,7 @@ straight_says l p = let z = zero_is (turn_is l.a l.b p) in (λ e. eqb-true _ _ (
 on_at : (p : Point) (l : Line) → (on p l ≡ true) ↔ OnAt p l
 unfolding on
 on_at p l =
-    Iff·trans
+    Iff.trans
     (both (both (straight_says l p) (both (le_says _ _) (le_says _ _))) (both (le_says _ _) (le_says _ _)))
     (λ f. record { even = f.0.0; w = f.0.1.0; e = f.0.1.1; s = f.1.0; n = f.1.1 }, λ o. ((o.even, (o.w, o.e)), (o.s, o.n)))
 
@@ -54,12 +55,12 @@ on_spot p l o =
     record { even = omega (arith, e); w = omega (arith, o.from_west); e = omega (arith, o.to_east); s = omega (arith, o.from_south); n = omega (arith, o.to_north) }
 
 pub on_says : (p : Point) (l : Line) → (on p l ≡ true) ↔ OnLine (spot_of p) l
-on_says p l = Iff·trans (on_at p l) (spot_on p l, on_spot p l)
+on_says p l = Iff.trans (on_at p l) (spot_on p l, on_spot p l)
 
 pub same_says : (p q : Point) → (same_point p q ≡ true) ↔ AtPoint (spot_of p) q
 unfolding same_point spot_of
 same_says p q =
-    Iff·trans (both (eq_says p.x.0 q.x.0) (eq_says p.y.0 q.y.0))
+    Iff.trans (both (eq_says p.x.0 q.x.0) (eq_says p.y.0 q.y.0))
     (λ f. record { same_x = omega (arith, f.0); same_y = omega (arith, f.1) }, λ h. (omega (arith, h.same_x), omega (arith, h.same_y)))
 
 pub same_refl : (p : Point) → same_point p p ≡ true

@@ -1,6 +1,7 @@
 -- The computed test and the common point: `meets_area k l` is true exactly if some point of the line lies in the closed rectangle, be it one segment or one point; and so for blocks.
 use Rattle.std.specs.Prelude.{◌≡◌, refl, ◌↔◌, ◌⊎◌, Bool, true, ℕ, ◌+◌, ◌*◌, ◌-◌, ◌≤◌, ◌<◌}
-use Rattle.std.proofs.Math.Logic.{inl, inr, Iff·trans}
+use Rattle.std.proofs.Math.Logic.Iff
+use Rattle.std.proofs.Math.Logic.{inl, inr}
 use Rattle.std.proofs.Common.{arith, mul-le-mul_right, le_of_lt}
 use Rattle.std.proofs.Math.Nat.{mul-lt-mul_of_pos_left}
 use Rattle.algebra.specs.Order.{mul_le}
@@ -42,7 +43,7 @@ module _ (k : Area) (east_more : k.west ≤ k.east) (north_more : k.south ≤ k.
   meets_says : (l : Line) → (meets_area k l ≡ true) ↔ Near l
   unfolding meets_area
   meets_says l =
-      Iff·trans
+      Iff.trans
       (both (both (both (both (both (le_says _ _) (le_says _ _)) (le_says _ _)) (le_says _ _)) (unless (corners_says (left_says l)))) (unless (corners_says (right_says l)))) (
         λ f. record { from_west = f.0.0.0.0.0; to_east = f.0.0.0.0.1; from_south = f.0.0.0.1; to_north = f.0.0.1; not_left = λ a b c d. f.0.1 (((a, b), c), d); not_right = λ a b c d. f.1 (((a, b), c), d) },
         λ n. (((((n.from_west, n.to_east), n.from_south), n.to_north), λ c. n.not_left c.0.0.0 c.0.0.1 c.0.1 c.1), λ c. n.not_right c.0.0.0 c.0.0.1 c.0.1 c.1),
@@ -193,7 +194,7 @@ module _ (k : Area) (east_more : k.west ≤ k.east) (north_more : k.south ≤ k.
       }
 
   pub meets_area_iff : (l : Line) → (meets_area k l ≡ true) ↔ MeetsArea k l
-  meets_area_iff l = Iff·trans (meets_says l) (spot_of_lem l, near_of l)
+  meets_area_iff l = Iff.trans (meets_says l) (spot_of_lem l, near_of l)
 
 pub meets_iff : (k : Block) (l : Line) → (meets k l ≡ true) ↔ Meets k l
 unfolding meets

@@ -1,4 +1,6 @@
 // Each refusal by its number, with the tables afterwards, and histories of slots, run on the proved library.
+#![tactic(auto)]
+
 use steps::bench::{
     Bench, add, case, cleared, labelled, lend_lines, lent, lines_part, look, remove, set_line,
     set_listing, set_node, show, start, tree, view,

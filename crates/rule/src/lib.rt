@@ -1,4 +1,6 @@
 // The rule of division: when a block is left whole.
+#![tactic(auto)]
+
 ghost use Rattle.std.specs.Prelude.{◌≡◌, map};
 ghost use Rattle.algebra.specs.Words.{every};
 ghost use Rattle.definitions.specs.Tables.{line_at};

@@ -1,4 +1,6 @@
 // A list of slots scanned for a point: the line through it, or the best line on the way from it; and a plain search of all live lines.
+#![tactic(auto)]
+
 ghost use Rattle.std.specs.Prelude.{◌≡◌, ◌+◌, ◌<◌};
 ghost use Rattle.geometry.specs.Means.{line_of};
 ghost use Rattle.geometry.specs.Range.{End, LineEnds};
@@ -14,7 +16,7 @@ use tables::{line_at, lower_label, row_at, upper_label, wide};
 // Everywhere below, south tells the way from the point: lines below it, the higher first; else lines above it, the lower first.
 
 // What a scan of slots finds: the first line through the point; or, where there is none, the best line on the way.
-#[derive(Drop)]
+#[derive(Clone, Copy)]
 pub enum Scan {
     On(u16),
     Best(Found),

@@ -1,4 +1,6 @@
 // The leaf that show leaf is about.
+#![tactic(auto)]
+
 ghost use Rattle.std.specs.Prelude.{◌≤◌};
 ghost use Rattle.definitions.specs.Shape.{grid_point};
 ghost use Rattle.definitions.specs.Tree.{Tree, base_rule};
@@ -13,7 +15,7 @@ use tables::lengths_fit;
 use walk::{Leaf, index_nodes, leaf_over};
 
 // That leaf, or the refusal.
-#[derive(Drop)]
+#[derive(Clone, Copy)]
 pub enum Asked {
     Refused(Answer),
     Shows(Leaf),

@@ -1,4 +1,6 @@
 // The map is sound: what every call but start tests after the lengths.
+#![tactic(auto)]
+
 ghost use Rattle.std.specs.Prelude.{◌≡◌, true};
 ghost use Rattle.definitions.specs.Tree.{base_rule};
 ghost use Rattle.definitions.specs.Tables.{lengths_fit, sound};

@@ -5,7 +5,7 @@ use crate::tools::{all_answers, bar, entries, left_over, part, set_entry, show_l
 use definitions::{Answer, Given, Window};
 
 // Each table one entry or slot longer than may be lent.
-#[derive(Drop)]
+#[derive(Clone, Copy)]
 pub struct Bench {
     pub lines: [u16; 8200],
     pub nodes: [u16; 16385],
@@ -15,7 +15,7 @@ pub struct Bench {
     pub listing_entries: usize,
 }
 
-#[derive(Drop)]
+#[derive(Clone, Copy)]
 enum Step {
     Start,
     Insert(Given),

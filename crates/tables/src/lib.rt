@@ -1,4 +1,6 @@
 // The lent tables: their lengths, rows of the line table, comparing, copying and clearing.
+#![tactic(auto)]
+
 ghost use Rattle.std.specs.Prelude.{◌≡◌, true, false, ◌+◌, ◌*◌, ◌/◌, ◌%◌, ◌≤◌, eqb, length, replicate};
 ghost use Rattle.algebra.specs.Words.{every, same_list, over};
 ghost use Rattle.definitions.specs.Shape.{grid_point, same_point};
@@ -17,7 +19,7 @@ use definitions::Given;
 use geometry::{Line, conflict, line_of, on_grid};
 
 // The next free places of the node table and the listing table.
-#[derive(Drop)]
+#[derive(Clone, Copy)]
 pub struct Place {
     pub node: usize,
     pub listing: usize,
@@ -38,7 +40,7 @@ pub fn wide(n: u16) -> usize
 }
 
 // The 8 entries of a slot.
-#[derive(Drop)]
+#[derive(Clone, Copy)]
 pub struct Row {
     pub live: u16,
     pub generation: u16,
@@ -255,7 +257,7 @@ pub fn live_slots(lines: &[u16], to: &mut [u16]) -> usize
 }
 
 // A slot, or that there is none.
-#[derive(Drop)]
+#[derive(Clone, Copy)]
 pub enum Slot {
     At(usize),
     None,

@@ -1,4 +1,6 @@
 // The build walk.
+#![tactic(auto)]
+
 ghost use Rattle.std.specs.Prelude.{[], ◌∷◌, suc, ◌≤◌, ◌<◌, length};
 ghost use Rattle.std.proofs.Math.Seq.{slice};
 ghost use Rattle.geometry.specs.Means.{block_of};
@@ -10,7 +12,7 @@ use rule::left_whole;
 use tables::{Place, copy, live_slots};
 
 // The next free places, or that one of the tables is too short.
-#[derive(Drop)]
+#[derive(Clone, Copy)]
 pub enum Built {
     Next(Place),
     NoRoom,

@@ -1,4 +1,6 @@
 // The index of the node table, and the leaf that holds a point.
+#![tactic(auto)]
+
 ghost use Rattle.std.specs.Prelude.{◌+◌, ◌*◌, ◌≤◌, ◌<◌, length};
 ghost use Rattle.definitions.specs.Tree.{Tree};
 ghost use Rattle.walk.specs.Index.{Standing, Indexed, Walkable, Divided, Filled, Put, SonOver, Searchable, LeafOver};
@@ -7,7 +9,7 @@ use definitions::{Half, Point};
 use tables::{Place, wide};
 
 // A leaf: its block, where its listings start, and how many they are.
-#[derive(Drop)]
+#[derive(Clone, Copy)]
 pub struct Leaf {
     pub west: Half,
     pub south: Half,
@@ -17,7 +19,7 @@ pub struct Leaf {
 }
 
 // A son of a block: its south-west corner, and which of the four it is, in the order NW, NE, SW, SE.
-#[derive(Drop)]
+#[derive(Clone, Copy)]
 struct Son {
     west: u16,
     south: u16,

@@ -1,5 +1,7 @@
 // Everything in the window: a closed rectangle, the lines that meet it, and their slots listed. A scan of the live lines:
 // the check of the whole map comes before it and costs far more.
+#![tactic(auto)]
+
 ghost use Rattle.std.specs.Prelude.{◌≡◌, true, ◌*◌, ◌≤◌, length};
 ghost use Rattle.algebra.specs.Words.{every};
 ghost use Rattle.definitions.specs.Shape.{meets_area};
@@ -17,7 +19,7 @@ use geometry::{Line, on_grid, to_half, turn};
 use tables::{Row, copy, is_live, line_of_row, row_at};
 
 // A closed rectangle by its four sides.
-#[derive(Drop)]
+#[derive(Clone, Copy)]
 pub struct Area {
     pub west: Half,
     pub south: Half,
