@@ -25,14 +25,14 @@ pub record Without (ms : List Line) (m : Line) : Type 0 where
   pub longer : length ms ≡ suc (length rest)
   pub others : (x : Line) → Memᴰ x ms → SameEnds x m ⊎ Memᴰ x rest
 
-without : {ms : List Line} {m : Line} → Memᴰ m ms → Without ms m
+without : {m : Line} {ms : List Line} → Memᴰ m ms → Without ms m
 without {m = m} (Memᴰ.head {x = y} {xs = ys} e) = record { rest = ys; longer = refl; others = λ x n. go x (Memᴰ.cases_cons n) }
   where
     go : (x : Line) → (x ≡ y) ⊎ Memᴰ x ys → SameEnds x m ⊎ Memᴰ x ys
     go x (inl q) = inl (ap (λ (l : Line). l.a) (q ∙ sym e), ap (λ (l : Line). l.b) (q ∙ sym e))
     go x (inr n) = inr n
 without {m = m} (Memᴰ.tail {x = y} {xs = ys} n) =
-    let w = without n in
+    let w = without {m = m} n in
     record { rest = y ∷ w.rest; longer = ap suc w.longer; others = λ x k. go w x (Memᴰ.cases_cons k) }
   where
     go : (w : Without ys m) (x : Line) → (x ≡ y) ⊎ Memᴰ x ys → SameEnds x m ⊎ Memᴰ x (y ∷ w.rest)
