@@ -1,0 +1,31 @@
+use mathlib.Core.Path.{sym, ap, ap₂, ◌∙◌}
+use native.Mathlib.Omega.{arith}
+use Rattle.definitions.specs.Tables.{line_at, is_live}
+use Rattle.definitions.specs.Shape.{Line, conflict}
+use Rattle.geometry.specs.Means.{line_of, line_from}
+use Rattle.geometry.specs.Range.{grid_ends}
+use Rattle.tables.specs.Sound.{on_map, ends_apart}
+use Rattle.tables.specs.Rows.{entries_of}
+use Rattle.tables.proofs.hinders.Goals as goal
+
+pub line_of_row-requires : goal.line_of_row-requires
+unfolding entries_of is_live
+line_of_row-requires c = let m = on_map (entries_of c.args.row) 0 (omega arith) c.requires.0 (sym c.is_live.ensures ∙ c.if-is_live.true) in (m.grid_x1, m.grid_y1, m.grid_x2, m.grid_y2)
+
+pub conflict-requires : goal.conflict-requires
+unfolding entries_of is_live line_at
+conflict-requires c = (
+  rw (c.line_of_row.ensures.0, c.line_of_row.ensures.1) (ends_apart (entries_of c.args.row) 0 (omega arith) c.requires.0 (sym c.is_live.ensures ∙ c.if-is_live.true)),
+  c.requires.1,
+  (let m = on_map (entries_of c.args.row) 0 (omega arith) c.requires.0 (sym c.is_live.ensures ∙ c.if-is_live.true) in grid_ends c.line_of_row.ensures (m.grid_x1, m.grid_y1, m.grid_x2, m.grid_y2)),
+  c.requires.2,
+)
+
+pub returns-then-is_live : goal.returns-then-is_live
+unfolding entries_of is_live line_at
+returns-then-is_live c = 
+    rw (sym c.is_live.ensures ∙ c.if-is_live.true) (c.conflict.ensures ∙ ap (λ (m : Line). conflict m (line_of c.args.l)) (ap₂ line_from c.line_of_row.ensures.0 c.line_of_row.ensures.1))
+
+pub returns : goal.returns
+unfolding entries_of is_live
+returns c = rw (sym c.is_live.ensures ∙ c.if-is_live.false)
