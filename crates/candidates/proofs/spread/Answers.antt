@@ -1,0 +1,49 @@
+use Prim.Native.Nat.{◌-◌}
+use native.Mathlib.Omega.{arith}
+use lib.ListN.{length-set}
+use Rattle.candidates.proofs.Spreading.{turned_none, turned_on, on_map, sons_asked, son_done}
+use Rattle.candidates.proofs.spread.Goals as goal
+
+pub loop-i-init : goal.loop-i-init
+loop-i-init c = turned_none c.requires
+
+pub line_at-requires : goal.line_at-requires
+line_at-requires c =
+    on_map c.requires c.loop-i.invariant c.loop-i-test.true
+
+pub sons_met-m-requires : goal.sons_met-m-requires
+sons_met-m-requires c =
+    let l = c in
+    sons_asked l.requires l.loop-i.invariant c.loop-i-test.true c.line_at.ensures
+
+pub bounds-slots-ne : goal.bounds-slots-ne
+bounds-slots-ne c = simp length-set (omega arith)
+
+pub bounds-slots-sw : goal.bounds-slots-sw
+bounds-slots-sw c = simp length-set (omega arith)
+
+pub bounds-slots-se : goal.bounds-slots-se
+bounds-slots-se c = simp length-set (omega arith)
+
+pub overflow_add-se : goal.overflow_add-se
+overflow_add-se c =
+    let g = c.before.before.before.before.before in 
+    let l = g in
+    omega (arith, c.one-se.ensures, l.loop-i.invariant, l.requires, l.before.before, l.before, g.loop-i-test.true)
+
+pub loop-i-preserved : goal.loop-i-preserved
+loop-i-preserved c =
+    rw (c.one-nw.ensures.0, c.one-ne.ensures.0, c.one-sw.ensures.0, c.one-se.ensures.0)
+    (turned_on c.requires c.loop-i.invariant c.loop-i-test.true c.line_at.ensures c.sons_met-m.result c.sons_met-m.ensures)
+
+pub returns : goal.returns
+returns c =
+    let v = c.loop-i.invariant in
+    let p = c.requires in
+    record {
+      below = v.below;
+      nw = son_done p _ c.loop-i-test.false v.hi (omega arith) v.f_nw c.span_of.ensures;
+      ne = son_done p _ c.loop-i-test.false v.hi (omega arith) v.f_ne c.span_of-2.ensures;
+      sw = son_done p _ c.loop-i-test.false v.hi (omega arith) v.f_sw c.span_of-3.ensures;
+      se = son_done p _ c.loop-i-test.false v.hi (omega arith) v.f_se c.span_of-4.ensures;
+    }
