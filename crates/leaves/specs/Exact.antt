@@ -4,6 +4,7 @@ use Rattle.std.proofs.Math.Path.{refl, ap}
 use Rattle.std.proofs.Common.{sym, ◌∙◌, ap₂, subst, inl, inr, arith}
 use Rattle.std.proofs.Math.Logic.{⊎_elim}
 use Rattle.std.proofs.Math.Bool.{false, not}
+use mathlib.Core.List.Memᴰ
 use mathlib.Core.List.{List, [], ◌∷◌, ◌++◌, append-nil, Memᴰ}
 use Rattle.std.proofs.Math.ListN.{length, take}
 use Rattle.std.proofs.Math.Seq.{take-append_seam}
@@ -35,6 +36,7 @@ module _ (lines : List ℕ) where
 
   pub apart→ : (slots : List ℕ) → Good lines slots → leaf_apart lines slots ≡ true → {x y : ℕ} → Memᴰ x slots → Memᴰ y slots → Apart x y
   unfolding leaf_apart clear_of
+  apart→ [] g e mx my = absurd (Memᴰ.not-nil mx)
   apart→ (s ∷ more) g e {x} {y} mx my = go mx my (λ m n. apart→ more (λ u m. g u (Memᴰ.tail m)) (and_r (clear_of lines (line_at lines s) more) _ e) m n)
     where
       clear : {u : ℕ} → Memᴰ u more → conflict (line_at lines s) (line_at lines u) ≡ false

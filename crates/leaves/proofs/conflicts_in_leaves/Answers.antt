@@ -1,11 +1,11 @@
 use borrow.Author.Tests.{not-true, not-false}
 use mathlib.Core.Path.{sym, ap, ◌∙◌}
-use mathlib.Core.Logic.{⊎_elim}
 use mathlib.Core.Bool.{not}
 use Prim.Native.Nat.{◌-◌}
 use native.Mathlib.Omega.{arith}
 use Rattle.leaves.proofs.Ahead.{ahead_start, ahead_end, ahead_parted, leaf_here}
 use Rattle.leaves.proofs.conflicts_in_leaves.Goals as goal
+use Rattle.leaves.proofs.conflicts_in_leaves.Goals.{then-n-ne65535+else-n-gt1, else-n-ne65535, else-n-gt1-via-then-n-gt1+else-leaf_conflicts, else-n-gt1-via-else-n-gt1}
 
 pub loop-node-init : goal.loop-node-init
 loop-node-init c = ahead_start c.requires
@@ -26,11 +26,13 @@ pub loop-node-preserved : goal.loop-node-preserved
 loop-node-preserved c = 
     let inv = c.loop-node.invariant in
     let here = leaf_here inv (omega (arith, c.loop-node-test.true)) c.wide-n.ensures in
-    ⊎_elim
-    (λ v. let l = here v.0.taken in
-    rw v.2 (l.passed (⊎_elim (λ u. not-false _ (sym u.2.ensures ∙ u.3.left)) (λ u. l.few u.left) v.1.came)))
-    (λ v. rw v.1 (ahead_parted inv (omega (arith, c.loop-node-test.true)) c.wide-n.ensures v.0.left))
-    c.if-n-ne65535.branch
+    elim c.if-n-ne65535.branch [
+      | then-n-ne65535+else-n-gt1 v ↦ let l = here v.if-n-ne65535.true in rw v.at-is (l.passed (elim v.else-n-gt1.branch [
+        | else-n-gt1-via-then-n-gt1+else-leaf_conflicts u ↦ not-false _ (sym u.leaf_conflicts.ensures ∙ u.if-leaf_conflicts.false)
+        | else-n-gt1-via-else-n-gt1 u ↦ l.few u.if-n-gt1.false
+      ]))
+      | else-n-ne65535 v ↦ rw v.at-is (ahead_parted inv (omega (arith, c.loop-node-test.true)) c.wide-n.ensures v.if-n-ne65535.false)
+    ]
 
 pub returns : goal.returns
 returns c = sym (ap not (ahead_end c.loop-node.invariant c.loop-node-test.false))
