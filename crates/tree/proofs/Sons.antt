@@ -100,10 +100,10 @@ module _ (lines slots : List ℕ) (k : Block) where
   unfolding base_rule
   rule_is h e = sym (e ∙ ap (simple (map (line_at lines) slots)) (block_is h))
 
-  pub left_whole : (level : ℕ) → true ≡ left_whole level (simple (map (line_at lines) slots) k) → OfTree k level → Candidates lines k slots → IsLeaf level
+  pub left_whole_lem : (level : ℕ) → true ≡ left_whole level (simple (map (line_at lines) slots) k) → OfTree k level → Candidates lines k slots → IsLeaf level
   unfolding tree_for tree_by
-  left_whole zero e h c = leaf_of zero h c refl
-  left_whole (suc n) e h c = leaf_of (suc n) h c (by_leaf base_rule (map (line_at lines) slots) n k.west k.south (rule_is h e))
+  left_whole_lem zero e h c = leaf_of zero h c refl
+  left_whole_lem (suc n) e h c = leaf_of (suc n) h c (by_leaf base_rule (map (line_at lines) slots) n k.west k.south (rule_is h e))
 
   pub is_divided : (level : ℕ) → false ≡ left_whole level (simple (map (line_at lines) slots) k) → OfTree k level → IsDivided level
   unfolding tree_for block_nodes block_listings sons_nodes sons_listings nodes_of listings_of

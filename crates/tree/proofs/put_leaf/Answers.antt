@@ -11,12 +11,11 @@ returns-then-listings-listing c = inr (omega arith)
 pub returns : goal.returns
 unfolding over
 returns c =
-    let a = c.args in
     record {
       next_node = omega arith;
       next_listing = omega arith;
       nodes_fit = omega (arith, c.requires);
       listings_fit = omega (arith, c.requires);
       nodes_are = refl;
-      listings_are = put_over a.at.listing a.listings-1.now a.slots.now (omega (arith, c.requires)) _ c.copy.ensures;
+      listings_are = put_over c.args.at.listing c.args.listings.now c.args.slots.now (omega (arith, c.requires)) _ c.copy.ensures;
     }
