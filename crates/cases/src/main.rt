@@ -7,10 +7,12 @@ mod points;
 mod trees;
 mod windows;
 
-fn main() {
-    paper::all();
-    trees::all();
-    points::all();
-    above::all();
-    windows::all();
+use std::io;
+
+fn main(rt: HostRuntime) -> io::Result<()> {
+    paper::all(&rt)?;
+    trees::all(&rt)?;
+    points::all(&rt)?;
+    above::all(&rt)?;
+    windows::all(&rt)
 }

@@ -3,6 +3,7 @@ ghost use Rattle.std.specs.Prelude.{◌≤◌};
 
 use crate::tools::{all_answers, bar, entries, left_over, part, set_entry, show_leaf, tell, word};
 use definitions::{Answer, Given, Window};
+use std::io;
 
 // Each table one entry or slot longer than may be lent.
 #[derive(Clone, Copy)]
@@ -24,25 +25,26 @@ enum Step {
 
 // Every table 0, with so many entries lent.
 pub fn lent(
+    rt: &impl Print,
     name: &[u8],
     line_entries: usize,
     node_entries: usize,
     listing_entries: usize,
-) -> Bench {
-    word(name);
-    Bench {
+) -> io::Result<Bench> {
+    word(rt, name)?;
+    Ok(Bench {
         lines: [0; 8200],
         nodes: [0; 16385],
         listings: [0; 16385],
         line_entries,
         node_entries,
         listing_entries,
-    }
+    })
 }
 
 // Four slots, and room for small trees.
-pub fn case(name: &[u8]) -> Bench {
-    lent(name, 32, 200, 200)
+pub fn case(rt: &impl Print, name: &[u8]) -> io::Result<Bench> {
+    lent(rt, name, 32, 200, 200)
 }
 
 // So many, or as many as there are.
@@ -61,6 +63,7 @@ fn answer_to(lines: &mut [u16], nodes: &mut [u16], listings: &mut [u16], step: S
 }
 
 fn call_on_parts(
+    rt: &impl Print,
     lines: &mut [u16],
     nodes: &mut [u16],
     listings: &mut [u16],
@@ -68,22 +71,26 @@ fn call_on_parts(
     n: usize,
     m: usize,
     step: Step,
-) {
+) -> io::Result<()> {
     let l = at_most(l, lines.len());
     let n = at_most(n, nodes.len());
     let m = at_most(m, listings.len());
-    tell(answer_to(&mut lines[..l], &mut nodes[..n], &mut listings[..m], step));
+    tell(
+        rt,
+        answer_to(&mut lines[..l], &mut nodes[..n], &mut listings[..m], step),
+    )
 }
 
-fn take(b: Bench, step: Step) -> Bench {
+fn take(rt: &impl Print, b: Bench, step: Step) -> io::Result<Bench> {
     let mut lines = b.lines;
     let mut nodes = b.nodes;
     let mut listings = b.listings;
     let line_entries = b.line_entries;
     let node_entries = b.node_entries;
     let listing_entries = b.listing_entries;
-    bar();
+    bar(rt)?;
     call_on_parts(
+        rt,
         &mut lines,
         &mut nodes,
         &mut listings,
@@ -91,22 +98,31 @@ fn take(b: Bench, step: Step) -> Bench {
         node_entries,
         listing_entries,
         step,
-    );
-    Bench {
+    )?;
+    Ok(Bench {
         lines,
         nodes,
         listings,
         line_entries,
         node_entries,
         listing_entries,
-    }
+    })
 }
 
-pub fn start(b: Bench) -> Bench {
-    take(b, Step::Start)
+pub fn start(rt: &impl Print, b: Bench) -> io::Result<Bench> {
+    take(rt, b, Step::Start)
 }
 
-pub fn labelled(b: Bench, x1: u16, y1: u16, x2: u16, y2: u16, left: u16, right: u16) -> Bench {
+pub fn labelled(
+    rt: &impl Print,
+    b: Bench,
+    x1: u16,
+    y1: u16,
+    x2: u16,
+    y2: u16,
+    left: u16,
+    right: u16,
+) -> io::Result<Bench> {
     let g = Given {
         x1,
         y1,
@@ -115,18 +131,19 @@ pub fn labelled(b: Bench, x1: u16, y1: u16, x2: u16, y2: u16, left: u16, right: 
         left,
         right,
     };
-    take(b, Step::Insert(g))
+    take(rt, b, Step::Insert(g))
 }
 
-pub fn add(b: Bench, x1: u16, y1: u16, x2: u16, y2: u16) -> Bench {
-    labelled(b, x1, y1, x2, y2, 0, 0)
+pub fn add(rt: &impl Print, b: Bench, x1: u16, y1: u16, x2: u16, y2: u16) -> io::Result<Bench> {
+    labelled(rt, b, x1, y1, x2, y2, 0, 0)
 }
 
-pub fn remove(b: Bench, handle: u32) -> Bench {
-    take(b, Step::Delete(handle))
+pub fn remove(rt: &impl Print, b: Bench, handle: u32) -> io::Result<Bench> {
+    take(rt, b, Step::Delete(handle))
 }
 
 fn show_on_parts(
+    rt: &impl Print,
     lines: &[u16],
     nodes: &[u16],
     listings: &[u16],
@@ -135,19 +152,20 @@ fn show_on_parts(
     m: usize,
     x: u16,
     y: u16,
-) {
+) -> io::Result<()> {
     let l = at_most(l, lines.len());
     let n = at_most(n, nodes.len());
     let m = at_most(m, listings.len());
-    show_leaf(&lines[..l], &nodes[..n], &listings[..m], x, y);
+    show_leaf(rt, &lines[..l], &nodes[..n], &listings[..m], x, y)
 }
 
-pub fn show(b: Bench, x: u16, y: u16) {
+pub fn show(rt: &impl Print, b: Bench, x: u16, y: u16) -> io::Result<()> {
     let lines = b.lines;
     let nodes = b.nodes;
     let listings = b.listings;
-    bar();
+    bar(rt)?;
     show_on_parts(
+        rt,
         &lines,
         &nodes,
         &listings,
@@ -156,10 +174,11 @@ pub fn show(b: Bench, x: u16, y: u16) {
         b.listing_entries,
         x,
         y,
-    );
+    )
 }
 
 fn look_on_parts(
+    rt: &impl Print,
     lines: &[u16],
     nodes: &[u16],
     listings: &[u16],
@@ -168,19 +187,23 @@ fn look_on_parts(
     m: usize,
     points: &[u16],
     answers: &mut [u32],
-) {
+) -> io::Result<()> {
     let l = at_most(l, lines.len());
     let n = at_most(n, nodes.len());
     let m = at_most(m, listings.len());
-    tell(map::locate(&lines[..l], &nodes[..n], &listings[..m], points, answers));
+    tell(
+        rt,
+        map::locate(&lines[..l], &nodes[..n], &listings[..m], points, answers),
+    )
 }
 
-pub fn look(b: Bench, points: &[u16], answers: &mut [u32]) {
+pub fn look(rt: &impl Print, b: Bench, points: &[u16], answers: &mut [u32]) -> io::Result<()> {
     let lines = b.lines;
     let nodes = b.nodes;
     let listings = b.listings;
-    bar();
+    bar(rt)?;
     look_on_parts(
+        rt,
         &lines,
         &nodes,
         &listings,
@@ -189,11 +212,12 @@ pub fn look(b: Bench, points: &[u16], answers: &mut [u32]) {
         b.listing_entries,
         points,
         answers,
-    );
-    all_answers(answers);
+    )?;
+    all_answers(rt, answers)
 }
 
 fn view_on_parts(
+    rt: &impl Print,
     lines: &[u16],
     nodes: &[u16],
     listings: &[u16],
@@ -202,19 +226,31 @@ fn view_on_parts(
     m: usize,
     w: Window,
     slots: &mut [u16],
-) {
+) -> io::Result<()> {
     let l = at_most(l, lines.len());
     let n = at_most(n, nodes.len());
     let m = at_most(m, listings.len());
-    tell(map::window(&lines[..l], &nodes[..n], &listings[..m], w, slots));
+    tell(
+        rt,
+        map::window(&lines[..l], &nodes[..n], &listings[..m], w, slots),
+    )
 }
 
-pub fn view(b: Bench, west: u16, south: u16, east: u16, north: u16, slots: &mut [u16]) {
+pub fn view(
+    rt: &impl Print,
+    b: Bench,
+    west: u16,
+    south: u16,
+    east: u16,
+    north: u16,
+    slots: &mut [u16],
+) -> io::Result<()> {
     let lines = b.lines;
     let nodes = b.nodes;
     let listings = b.listings;
-    bar();
+    bar(rt)?;
     view_on_parts(
+        rt,
         &lines,
         &nodes,
         &listings,
@@ -228,8 +264,8 @@ pub fn view(b: Bench, west: u16, south: u16, east: u16, north: u16, slots: &mut 
             north,
         },
         slots,
-    );
-    entries(slots, 0, slots.len());
+    )?;
+    entries(rt, slots, 0, slots.len())
 }
 
 pub fn set_line(b: Bench, i: usize, v: u16) -> Bench {
@@ -292,34 +328,34 @@ pub fn lend_lines(b: Bench, line_entries: usize) -> Bench {
     }
 }
 
-pub fn lines_part(b: Bench, from: usize, to: usize) {
+pub fn lines_part(rt: &impl Print, b: Bench, from: usize, to: usize) -> io::Result<()> {
     let lines = b.lines;
-    part(&lines, from, to);
+    part(rt, &lines, from, to)
 }
 
-pub fn nodes_part(b: Bench, from: usize, to: usize) {
+pub fn nodes_part(rt: &impl Print, b: Bench, from: usize, to: usize) -> io::Result<()> {
     let nodes = b.nodes;
-    part(&nodes, from, to);
+    part(rt, &nodes, from, to)
 }
 
-pub fn listings_part(b: Bench, from: usize, to: usize) {
+pub fn listings_part(rt: &impl Print, b: Bench, from: usize, to: usize) -> io::Result<()> {
     let listings = b.listings;
-    part(&listings, from, to);
+    part(rt, &listings, from, to)
 }
 
 // The tree: so many nodes and listings.
-pub fn tree(b: Bench, nodes: usize, listings: usize) {
-    nodes_part(b, 0, nodes);
-    listings_part(b, 0, listings);
+pub fn tree(rt: &impl Print, b: Bench, nodes: usize, listings: usize) -> io::Result<()> {
+    nodes_part(rt, b, 0, nodes)?;
+    listings_part(rt, b, 0, listings)
 }
 
 // Whether the three tables are all 0.
-pub fn cleared(b: Bench) {
+pub fn cleared(rt: &impl Print, b: Bench) -> io::Result<()> {
     let lines = b.lines;
     let nodes = b.nodes;
     let listings = b.listings;
-    bar();
-    left_over(&lines, 0);
-    left_over(&nodes, 0);
-    left_over(&listings, 0);
+    bar(rt)?;
+    left_over(rt, &lines, 0)?;
+    left_over(rt, &nodes, 0)?;
+    left_over(rt, &listings, 0)
 }

@@ -1,24 +1,23 @@
 // One step of a case each: a call on the lent tables, and its numbers printed.
 use definitions::Answer;
 use host::number;
-use libc::STDOUT_FILENO;
+use std::io;
 
-pub fn word(s: &[u8]) {
-    io::write_all(STDOUT_FILENO, s);
+pub fn word(rt: &impl Print, s: &[u8]) -> io::Result<()> {
+    rt.write_all(s)
 }
 
 // Between two steps of a case.
-pub fn bar() {
-    word(b" |");
+pub fn bar(rt: &impl Print) -> io::Result<()> {
+    word(rt, b" |")
 }
 
-pub fn end() {
-    word(b"\n");
+pub fn end(rt: &impl Print) -> io::Result<()> {
+    word(rt, b"\n")
 }
 
-pub fn put(v: u64) {
-    word(b" ");
-    io::print_decimal(STDOUT_FILENO, v);
+pub fn put(rt: &impl Print, v: u64) -> io::Result<()> {
+    print!(rt; " {v}")
 }
 
 fn wide(v: u16) -> u64 {
@@ -30,41 +29,42 @@ fn wider(v: u32) -> u64 {
 }
 
 // Refusal and detail.
-pub fn tell(a: Answer) {
+pub fn tell(rt: &impl Print, a: Answer) -> io::Result<()> {
     let n = number(a);
-    put(n / 4294967296);
-    put(n % 4294967296);
+    put(rt, n / 4294967296)?;
+    put(rt, n % 4294967296)
 }
 
-fn entry(t: &[u16], i: usize) {
+fn entry(rt: &impl Print, t: &[u16], i: usize) -> io::Result<()> {
     if i < t.len() {
-        put(wide(t[i]));
+        put(rt, wide(t[i]))?;
     }
+    Ok(())
 }
 
 // The entries from a place up to another.
-pub fn entries(t: &[u16], from: usize, to: usize) {
+pub fn entries(rt: &impl Print, t: &[u16], from: usize, to: usize) -> io::Result<()> {
     for i in from..to {
-        entry(t, i);
+        entry(rt, t, i)?;
     }
+    Ok(())
 }
 
 // 1 if an entry at the place or after it is not 0, else 0.
-pub fn left_over(t: &[u16], from: usize) {
+pub fn left_over(rt: &impl Print, t: &[u16], from: usize) -> io::Result<()> {
     for i in from..t.len() {
         if t[i] != 0 {
-            put(1);
-            return;
+            return put(rt, 1);
         }
     }
-    put(0);
+    put(rt, 0)
 }
 
 // Some entries, and whether all after them are 0.
-pub fn part(t: &[u16], from: usize, to: usize) {
-    bar();
-    entries(t, from, to);
-    left_over(t, to);
+pub fn part(rt: &impl Print, t: &[u16], from: usize, to: usize) -> io::Result<()> {
+    bar(rt)?;
+    entries(rt, t, from, to)?;
+    left_over(rt, t, to)
 }
 
 pub fn set_entry(t: &mut [u16], i: usize, v: u16) {
@@ -73,33 +73,42 @@ pub fn set_entry(t: &mut [u16], i: usize, v: u16) {
     }
 }
 
-fn answer(answers: &[u32], i: usize) {
+fn answer(rt: &impl Print, answers: &[u32], i: usize) -> io::Result<()> {
     if i < answers.len() {
-        put(wider(answers[i]));
+        put(rt, wider(answers[i]))?;
     }
+    Ok(())
 }
 
-pub fn all_answers(answers: &[u32]) {
+pub fn all_answers(rt: &impl Print, answers: &[u32]) -> io::Result<()> {
     for i in 0..answers.len() {
-        answer(answers, i);
+        answer(rt, answers, i)?;
     }
+    Ok(())
 }
 
-fn count_and_entries(t: &[u16]) {
-    put(t.len() as u64);
-    entries(t, 0, t.len());
+fn count_and_entries(rt: &impl Print, t: &[u16]) -> io::Result<()> {
+    put(rt, t.len() as u64)?;
+    entries(rt, t, 0, t.len())
 }
 
 // Show leaf: the answer, the side and corner, how many lines the leaf lists, and their slots.
-pub fn show_leaf(lines: &[u16], nodes: &[u16], listings: &[u16], x: u16, y: u16) {
+pub fn show_leaf(
+    rt: &impl Print,
+    lines: &[u16],
+    nodes: &[u16],
+    listings: &[u16],
+    x: u16,
+    y: u16,
+) -> io::Result<()> {
     let s = map::show_leaf(lines, nodes, listings, x, y);
     let a = s.answer;
     let side = s.side;
     let west = s.west;
     let south = s.south;
-    tell(a);
-    put(wide(side));
-    put(wide(west.0));
-    put(wide(south.0));
-    count_and_entries(map::show_part(lines, nodes, listings, x, y));
+    tell(rt, a)?;
+    put(rt, wide(side))?;
+    put(rt, wide(west.0))?;
+    put(rt, wide(south.0))?;
+    count_and_entries(rt, map::show_part(lines, nodes, listings, x, y))
 }
