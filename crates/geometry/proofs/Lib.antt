@@ -1,1 +1,2 @@
 pub mod RangeCases
+pub mod TurnWithin

@@ -22,7 +22,7 @@ use Rattle.meaning.specs.Answering.{through_is, live_mem, mem_live, Foremost, fo
 use Rattle.meaning.specs.Best.{scan, CountsAt, no_top, top, tops_less, tops_scan, Tops, Best}
 use Rattle.plane.specs.Compare.{order}
 use Rattle.meaning.specs.Height.{point_over, point_over_is, counts_below, counts_above, below→, above→}
-use Rattle.plane.specs.Meeting.{meets_iff}
+use Rattle.plane.proofs.Meeting.{meets_iff}
 use Rattle.meaning.specs.Rank.{Over, Higher, run_some, turn_height, taller, Taller, asym}
 use Rattle.plane.specs.Turns.{lefts, rights, turn_is}
 

@@ -18,7 +18,7 @@ use Rattle.meaning.specs.Fair.{Sub, none, keep, skip}
 use Rattle.plane.specs.Blocks.{double}
 use Rattle.plane.specs.Compare.{order}
 use Rattle.plane.specs.Ends.{same_refl, same_path, end_cases}
-use Rattle.plane.specs.Meeting.{meets_iff}
+use Rattle.plane.proofs.Meeting.{meets_iff}
 use borrow.Author.Tests.{leb-true, le-leb}
 
 pub sub_mem : {x : Line} {ls ms : List Line} → Sub ls ms → Memᴰ x ls → Memᴰ x ms

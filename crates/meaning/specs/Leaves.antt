@@ -17,7 +17,8 @@ use Rattle.plane.specs.Blocks.{double, nw_is, ne_is, sw_is, se_is}
 use Rattle.plane.specs.Compare.{order}
 use Rattle.plane.specs.Crossing.{Proper, conflict_iff}
 use Rattle.meaning.specs.Means.{inside→}
-use Rattle.plane.specs.Meeting.{meets_iff, turn_at_is}
+use Rattle.plane.specs.Meeting.{turn_at_is}
+use Rattle.plane.proofs.Meeting.{meets_iff}
 use Rattle.meaning.specs.Rules.{by_leaf, by_divided}
 use Rattle.meaning.specs.Slots.{same_or_not}
 use Rattle.meaning.specs.Sound.{live_proper}

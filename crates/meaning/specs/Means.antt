@@ -17,7 +17,7 @@ use Rattle.definitions.specs.Tree.{ends_of, simple, Tree, leaf, divided, listed,
 use Rattle.plane.specs.Blocks.{double, half_power, some_power}
 use Rattle.plane.specs.Ends.{same_refl, same_path, end_cases}
 use Rattle.meaning.specs.Fewer.{Simple, simple→, simple←}
-use Rattle.plane.specs.Meeting.{meets_iff}
+use Rattle.plane.proofs.Meeting.{meets_iff}
 use Rattle.meaning.specs.Rules.{of_ends, in_ends, at_most_one, by_leaf, by_divided}
 
 pub inside→ : (k : Block) (p : Point) → inside k p ≡ true → In k p

@@ -27,12 +27,12 @@ pub record Found (p : Point) (root : Block) (t : Tree) (f : Leaf) (listings : Li
   pub part : take f.lists (drop f.first listings) ≡ list
 
 -- what the search over a tree is to find, wherever its listings stand
-abbrev Finds : Point → Block → Tree → Type 0
+abbrev pub Finds : Point → Block → Tree → Type 0
 Finds p k t =
     (before after : List ℕ) (first : ℕ) (listings : List ℕ) → length before ≡ first → listings ≡ before ++ (listings_of t ++ after) → In k p
     → Found p k t (leaf_at p t k first) listings
 
-finds_leaf : (p : Point) (k : Block) (slots : List ℕ) → Finds p k (leaf slots)
+pub finds_leaf : (p : Point) (k : Block) (slots : List ℕ) → Finds p k (leaf slots)
 unfolding leaf_at listings_of
 finds_leaf p k slots before after first listings e f i =
     record {
@@ -67,7 +67,7 @@ module _ (p : Point) (n w s : ℕ) (a b c d : Tree)
   twice : h + h ≡ k.side
   twice = omega (arith, half_power n, double (suc n))
 
-  finds_four : Finds p k (divided a b c d)
+  pub finds_four : Finds p k (divided a b c d)
   unfolding leaf_at listings_of
   finds_four before after first listings e f i = go (ltb p.x.0 (w + h)) refl (ltb p.y.0 (s + h)) refl
     where
@@ -122,30 +122,11 @@ module _ (p : Point) (n w s : ℕ) (a b c d : Tree)
       go false x true y = se_found (ltb-false _ _ x) (ltb-true _ _ y)
       go false x false y = ne_found (ltb-false _ _ x) (ltb-false _ _ y)
 
-pub finds_tree : (p : Point) (rule : Rule) (ls : List Line) (n w s : ℕ) → Finds p (block n w s) (tree_by rule ls n w s)
-unfolding tree_by
-finds_tree p rule ls zero w s = finds_leaf p (block zero w s) (listed ls (block zero w s))
-finds_tree p rule ls (suc n) w s =
-    go (rule (block (suc n) w s) ls) refl (finds_tree p rule ls n w (s + 2 ^ suc n)) (finds_tree p rule ls n (w + 2 ^ suc n) (s + 2 ^ suc n)) (finds_tree p rule ls n w s) (finds_tree p rule ls n (w + 2 ^ suc n) s)
-  where
-    At : ℕ → ℕ → Type 0
-    At x y = Finds p (block n x y) (tree_by rule ls n x y)
-
-    go : (t : Bool) → rule (block (suc n) w s) ls ≡ t → At w (s + 2 ^ suc n) → At (w + 2 ^ suc n) (s + 2 ^ suc n) → At w s → At (w + 2 ^ suc n) s → Finds p (block (suc n) w s) (tree_by rule ls (suc n) w s)
-    go true e a b c d = rw (by_leaf rule ls n w s e) (finds_leaf p (block (suc n) w s) (listed ls (block (suc n) w s)))
-    go false e a b c d =
-        rw (by_divided rule ls n w s e)
-        (finds_four p n w s _ _ _ _
-        (subst (λ (k : Block). Finds p k (tree_by rule ls n w (s + 2 ^ suc n))) (sym (nw_is n w s)) a)
-        (subst (λ (k : Block). Finds p k (tree_by rule ls n (w + 2 ^ suc n) (s + 2 ^ suc n))) (sym (ne_is n w s)) b)
-        (subst (λ (k : Block). Finds p k (tree_by rule ls n w s)) (sym (sw_is n w s)) c)
-        (subst (λ (k : Block). Finds p k (tree_by rule ls n (w + 2 ^ suc n) s)) (sym (se_is n w s)) d))
-
 -- where the search over a tree comes to, if the tree's listings start at first
-abbrev Starts : Block → Tree → ℕ → Leaf → Type 0
+abbrev pub Starts : Block → Tree → ℕ → Leaf → Type 0
 Starts k t first f = (n : ℕ) × (f.first ≡ first + n) × ListedFrom k t f.place n
 
-listed_from : (p : Point) (t : Tree) (k : Block) (first : ℕ) → Starts k t first (leaf_at p t k first)
+pub listed_from : (p : Point) (t : Tree) (k : Block) (first : ℕ) → Starts k t first (leaf_at p t k first)
 unfolding leaf_at
 listed_from p (leaf slots) k first = (0, omega arith, at_once refl refl)
 listed_from p (divided a b c d) k first =
@@ -182,30 +163,3 @@ pub record ShowsLeaf (rule : Rule) (t : Tables) (x y : ℕ) (place : Block) (r :
   pub holds : In place (grid_point x y)
   pub is_leaf : LeafAt whole_map (tree rule (live_lines t.lines)) place r.part
   pub from : ListedFrom whole_map (tree rule (live_lines t.lines)) place r.first
-
-pub show_leaf : (rule : Rule) (t : Tables) (x y : ℕ) → lengths_fit t ≡ true → Sound rule t → on_grid x && on_grid y ≡ true
-    → ShowsLeaf rule t x y (leaf_over rule t x y).place (show_of rule t x y)
-unfolding show_of leaf_over
-show_leaf rule t x y fit sd on =
-    rw (fit, sound← rule t sd, on)
-    record { tells = refl; holds = found.holds; is_leaf = subst (λ (l : List ℕ). LeafAt whole_map T (place) l) (sym found.part) found.is_leaf; from = subst (ListedFrom whole_map T place) from_0 starts.2 }
-  where
-    T : Tree
-    T = tree rule (live_lines t.lines)
-
-    place : Block
-    place = (leaf_at (grid_point x y) (tree rule (live_lines t.lines)) whole_map 0).place
-
-    starts : Starts whole_map T 0 (leaf_at (grid_point x y) T whole_map 0)
-    starts = listed_from (grid_point x y) T whole_map 0
-
-    from_0 : starts.0 ≡ (leaf_at (grid_point x y) T whole_map 0).first
-    from_0 = omega (arith, starts.1)
-
-    found : Found (grid_point x y) whole_map (tree rule (live_lines t.lines)) (leaf_at (grid_point x y) (tree rule (live_lines t.lines)) whole_map 0) t.listings
-    found =
-        unfold tree in (finds_tree (grid_point x y) rule (live_lines t.lines) 14 0 0 [] _ 0 t.listings refl listings_are
-        (record { from_west = omega arith; to_east = omega (arith, leb-true x 16383 (and_l (on_grid x) (on_grid y) on)); from_south = omega arith; to_north = omega (arith, leb-true y 16383 (and_r (on_grid x) (on_grid y) on)) }))
-      where
-        listings_are : t.listings ≡ [] ++ (listings_of (tree_by rule (live_lines t.lines) 14 0 0) ++ replicate (length t.listings - length (listings_of (tree_by rule (live_lines t.lines) 14 0 0))) 0)
-        listings_are = unfold listing_table padded tree in sd.listings

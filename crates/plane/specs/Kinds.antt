@@ -98,7 +98,7 @@ module _ (l m : Line) (pl : Proper l) (pm : Proper m) (clash : conflict l m ≡ 
       go (inr (h, k)) = absurd (no_path (sym n ∙ (both← ((end_says l.a m).1 h) ((end_says l.b m).1 k))))
 
   -- the kind told is the kind
-  kind_told : KindIs l m (kind_of l m)
+  pub kind_told : KindIs l m (kind_of l m)
   unfolding kind_of
   kind_told = go (is_end l.a m && is_end l.b m) (in_line_of l m) (parts l m && parts m l) refl refl refl
     where
@@ -222,16 +222,10 @@ two_conflict l m t n = go (end? t.one l) (end? t.one m) (end? t.other l) (end? t
     go (inl a) (inl b) (inl c) (inr d) = at t.other_shared (λ e. d e.1)
     go (inl a) (inl b) (inl c) (inl d) = absurd (n (ends_same l m t.differ a b c d))
 
-kind_conflicts : (l m : Line) → Proper l → (k : Kind) → KindIs l m k → Conflicts l m
+pub kind_conflicts : (l m : Line) → Proper l → (k : Kind) → KindIs l m k → Conflicts l m
 kind_conflicts l m pl Crossing (s, o, f, g) = (s, o.shared.on_first, o.shared.on_second, λ b. f b.0)
 kind_conflicts l m pl Touching (s, o, inl (h, f)) = (s, o.shared.on_first, o.shared.on_second, λ b. f b.1)
 kind_conflicts l m pl Touching (s, o, inr (f, h)) = (s, o.shared.on_first, o.shared.on_second, λ b. f b.0)
 kind_conflicts l m pl Overlap (t, n) = two_conflict l m t n
 kind_conflicts l m pl Same (inl e) = ends_agree l m pl (inl (point_at e.0)) (inr (point_at e.1))
 kind_conflicts l m pl Same (inr e) = ends_agree l m pl (inr (point_at e.0)) (inl (point_at e.1))
-
-pub conflict_kinds : (l m : Line) → Proper l → Proper m → Conflicts l m ↔ ((k : Kind) × KindIs l m k)
-conflict_kinds l m pl pm = (
-  λ c. (kind_of l m, kind_told l m pl pm ((conflict_iff l m pl pm).1 c)),
-  λ h. kind_conflicts l m pl h.0 h.1,
-)

@@ -1,4 +1,4 @@
--- The computed test and the common point: `meets_area k l` is true exactly if some point of the line lies in the closed rectangle, be it one segment or one point; and so for blocks.
+-- The computed test and the common point: `meets_area k l` is true exactly if some point of the line lies in the closed rectangle, be it one segment or one point.
 use Rattle.std.specs.Prelude.{◌≡◌, refl, ◌↔◌, ◌⊎◌, Bool, true, ℕ, ◌+◌, ◌*◌, ◌-◌, ◌≤◌, ◌<◌}
 use Rattle.std.proofs.Math.Logic.Iff
 use Rattle.std.proofs.Math.Logic.{inl, inr}
@@ -6,8 +6,8 @@ use Rattle.std.proofs.Common.{arith, mul-le-mul_right, le_of_lt}
 use Rattle.std.proofs.Math.Nat.{mul-lt-mul_of_pos_left}
 use Rattle.algebra.specs.Order.{mul_le}
 use Rattle.definitions.specs.declared.Point.{Point}
-use Rattle.definitions.specs.Shape.{Line, Block, Area, area_of, half_point, min_x, max_x, min_y, max_y, corners, meets_area, meets}
-use Rattle.definitions.specs.Meaning.{Spot, MeetsArea, Meets}
+use Rattle.definitions.specs.Shape.{Line, Area, half_point, min_x, max_x, min_y, max_y, corners, meets_area}
+use Rattle.definitions.specs.Meaning.{Spot, MeetsArea}
 use Rattle.plane.specs.Compare.{order, not_more, cancelled, ◌·◌}
 use Rattle.plane.specs.Says.{both, unless, le_says, Left, Right, NotLeft, NotRight, left?, right?, left_says, right_says}
 use Rattle.plane.specs.Segments.{straight_of, back, online_back, mix_line}
@@ -195,7 +195,3 @@ module _ (k : Area) (east_more : k.west ≤ k.east) (north_more : k.south ≤ k.
 
   pub meets_area_iff : (l : Line) → (meets_area k l ≡ true) ↔ MeetsArea k l
   meets_area_iff l = Iff.trans (meets_says l) (spot_of_lem l, near_of l)
-
-pub meets_iff : (k : Block) (l : Line) → (meets k l ≡ true) ↔ Meets k l
-unfolding meets
-meets_iff k l = meets_area_iff (area_of k) (omega arith) (omega arith) l

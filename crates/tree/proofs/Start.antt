@@ -11,7 +11,8 @@ use Rattle.definitions.specs.Meaning.{Spot, OnLine}
 use Rattle.definitions.specs.Shape.{Line, Block, whole_map, meets}
 use Rattle.definitions.specs.Tables.{line_at, live_lines, live_slots}
 use Rattle.definitions.specs.Tree.{Tree, tree_by, tree, base_rule, nodes_of, listings_of}
-use Rattle.plane.specs.Meeting.{meets_iff, turn_at_is}
+use Rattle.plane.specs.Meeting.{turn_at_is}
+use Rattle.plane.proofs.Meeting.{meets_iff}
 use Rattle.tables.specs.Rows.{OnMap}
 use Rattle.tables.specs.Gathered.{Front}
 use Rattle.tables.specs.Slots.{live_few}

@@ -6,12 +6,12 @@ use Rattle.definitions.specs.Tree.{Rule, base_rule}
 use Rattle.meaning.specs.Fair.{Fair}
 use Rattle.meaning.specs.Rules.{base_fair}
 use Rattle.meaning.specs.Sound.{sound←}
-use Rattle.history.specs.Answers.{history_ready, deleted_8}
+use Rattle.history.proofs.Answers.{history_ready, deleted_8}
 use Rattle.history.specs.Demand.{Demand3}
-use Rattle.history.specs.Equal.{equal_trees}
-use Rattle.history.specs.Ledger.{all_distinct}
-use Rattle.history.specs.Restores.{restores}
-use Rattle.history.specs.Stands.{live_stands}
+use Rattle.history.proofs.Equal.{equal_trees}
+use Rattle.history.proofs.Ledger.{all_distinct}
+use Rattle.history.proofs.Restores.{restores}
+use Rattle.history.proofs.Stands.{live_stands}
 use Rattle.std.specs.Prelude.{◌≡◌, true, List}
 
 pub demand_3 : (rule : Rule) (fair : Fair rule) (t : Tables) → lengths_fit t ≡ true → (cs : List Call) → Demand3 rule t cs

@@ -9,7 +9,7 @@ use Rattle.definitions.specs.History.{Call, insert, delete, locate, show, window
 use Rattle.definitions.specs.Tables.{Tables}
 use Rattle.definitions.specs.Tree.{Rule}
 use Rattle.history.specs.Demand.{Held, Heard, heard, live_held, Gave, Took, NeverTook, Stands, now, after}
-use Rattle.history.specs.Held.{held_after, held_by, live_exact}
+use Rattle.history.proofs.Held.{held_after, held_by, live_exact}
 use Rattle.std.proofs.Common.{subst, sym, ◌∙◌, ap, inl, inr, arith, eqb-true, eq-eqb, ne_eqb}
 use Rattle.std.specs.Prelude.{◌≡◌, refl, ◌⊎◌, ◌↔◌, Bool, true, false, not, ℕ, eqb}
 use mathlib.Core.List.Memᴰ

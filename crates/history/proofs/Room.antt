@@ -20,12 +20,12 @@ use Rattle.meaning.specs.Fair.{SameEnds, Within, Once, one_more, Fair}
 use Rattle.meaning.specs.Slots.{same_or_not, placed_slots, gift_lives, new_line, others_live, others_line}
 use Rattle.meaning.specs.Sound.{Sound, sound→}
 use Rattle.meaning.specs.SoundMeans.{sound_means}
-use Rattle.history.specs.Conditions.{live_means, above_means, ends_mean}
-use Rattle.history.specs.Equal.{same_conflict, apart_once}
-use Rattle.history.specs.Exact.{insert_exact, first_way, first_free, no_free}
-use Rattle.history.specs.Kept.{apart_placed, clear_of}
+use Rattle.history.proofs.Conditions.{live_means, above_means, ends_mean}
+use Rattle.history.proofs.Equal.{same_conflict, apart_once}
+use Rattle.history.proofs.Exact.{insert_exact, first_way, first_free, no_free}
+use Rattle.history.proofs.Kept.{apart_placed, clear_of}
 use Rattle.history.specs.Refusals.{None, Some, Lowest, Vacant, NeedsMore, insert_tests}
-use Rattle.history.specs.Sizes.{SameSize, same_size}
+use Rattle.history.proofs.Sizes.{SameSize, same_size}
 
 -- the live lines after the line is put in slot s: those before, and the new one
 module _ (lines : List ℕ) (g : Given) (s : ℕ) (fits : 8 * s + 8 ≤ length lines) (dead : is_live lines s ≡ false) where

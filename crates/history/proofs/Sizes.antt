@@ -15,7 +15,7 @@ use Rattle.meaning.specs.Fewer.{listed_length, listings4}
 use Rattle.meaning.specs.Rules.{by_leaf, by_divided, sons_by, meets_ends, once_those}
 use Rattle.meaning.specs.Sound.{Sound}
 use Rattle.history.specs.Demand.{SameLines}
-use Rattle.history.specs.Equal.{partner_line, apart_once}
+use Rattle.history.proofs.Equal.{partner_line, apart_once}
 use mathlib.Core.List.{List, [], ◌∷◌, Memᴰ}
 use Prim.Native.Nat.{ℕ, zero, suc, ◌+◌, ◌^◌, ◌≤◌}
 

@@ -14,7 +14,7 @@ use Rattle.definitions.specs.Tables.{Tables, is_live, slots_of, live_slots, line
 use Rattle.definitions.specs.Tree.{tree, nodes_of, listings_of, Rule}
 use Rattle.meaning.specs.Leaves.{slot_of_line}
 use Rattle.meaning.specs.Slots.{same_or_not, bare_dead, as_long', rest_live, rest_line}
-use Rattle.history.specs.Ledger.{known_there, Deleted, delete_is, Deleted.refused as d_refused, Deleted.removed as d_removed}
+use Rattle.history.proofs.Ledger.{known_there, Deleted, delete_is, Deleted.refused as d_refused, Deleted.removed as d_removed}
 use mathlib.Core.List.{List, [], ◌∷◌, map}
 use mathlib.Core.List.{List, [], ◌∷◌, map}
 

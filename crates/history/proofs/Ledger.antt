@@ -11,7 +11,7 @@ use Rattle.definitions.specs.Tables.{Tables, generation, is_live, slots_of, leng
 use Rattle.definitions.specs.Tree.{Rule}
 use Rattle.plane.specs.Compare.{order}
 use Rattle.meaning.specs.Slots.{same_or_not, in_slot, other_slot, lives_other as live_other, bare_dead as freed_dead}
-use Rattle.history.specs.Cascade.{branch, by_first}
+use Rattle.history.proofs.Cascade.{branch, by_first}
 use Rattle.history.specs.Demand.{given_now, given_by, Distinct, Distinct.none, Distinct.one}
 use Rattle.std.specs.Prelude.{◌≡◌, ◌⊎◌, Bool, false, not, ◌&&◌, ltb, eqb, length}
 use Rattle.std.proofs.Math.Path.{refl}

@@ -12,10 +12,10 @@ use Rattle.meaning.specs.Chain.{stable}
 use Rattle.meaning.specs.Fair.{Fair}
 use Rattle.meaning.specs.Sound.{Sound, sound→, sound←}
 use Rattle.meaning.specs.SoundMeans.{sound_means}
-use Rattle.history.specs.Cascade.{place, standing}
-use Rattle.history.specs.Conditions.{lengths_mean}
-use Rattle.history.specs.Exact.{start_made, start_exact, insert_exact, delete_exact}
-use Rattle.history.specs.Kept.{insert_sound, delete_sound, start_sound}
+use Rattle.history.proofs.Cascade.{place, standing}
+use Rattle.history.proofs.Conditions.{lengths_mean}
+use Rattle.history.proofs.Exact.{start_made, start_exact, insert_exact, delete_exact}
+use Rattle.history.proofs.Kept.{insert_sound, delete_sound, start_sound}
 use Rattle.history.specs.Refusals.{Unsound}
 
 module _ (rule : Rule) (fair : Fair rule) (t : Tables) where

@@ -20,13 +20,14 @@ use Rattle.plane.specs.Crossing.{Proper, conflict_iff}
 use Rattle.plane.specs.Kinds.{kind_iff, one_kind}
 use Rattle.meaning.specs.Chain.{stable}
 use Rattle.meaning.specs.Fair.{Fair}
-use Rattle.meaning.specs.Show.{ShowsLeaf, show_leaf}
+use Rattle.meaning.specs.Show.{ShowsLeaf}
+use Rattle.meaning.proofs.Show.{show_leaf}
 use Rattle.meaning.specs.Sound.{sound→, grid_proper}
 use Rattle.meaning.specs.SoundMeans.{sound_means, live_is_proper}
-use Rattle.history.specs.Cascade.{tested, gives, by_first, Came, kept, made, plain, detailed, done_0, alone}
+use Rattle.history.proofs.Cascade.{tested, gives, by_first, Came, kept, made, plain, detailed, done_0, alone}
 use Rattle.history.specs.Refusals.{None, Some, Retired, Lowest, Named, WrongLengths, Unsound, EndsEqual, InTheWay, AllTaken, Vacant, NeedsMore, TooLarge, Handle, Nothing, All0, PutIn, TakenOut, AnswersAll, StartExact, InsertExact, DeleteExact, LocateExact, ShowExact, insert_tests, delete_tests, locate_tests, show_tests}
-use Rattle.history.specs.Left.{cleared_all0, put_in, taken_out, answers_all}
-use Rattle.history.specs.Conditions.{lengths_mean, wrong_means, unsound_means, above_means, place_means, ends_mean, lowest_first, none_passes, lowest_only, way_means, vacant_means, taken_means, not_taken, room_means, unknown_means, lists_mean}
+use Rattle.history.proofs.Left.{cleared_all0, put_in, taken_out, answers_all}
+use Rattle.history.proofs.Conditions.{lengths_mean, wrong_means, unsound_means, above_means, place_means, ends_mean, lowest_first, none_passes, lowest_only, way_means, vacant_means, taken_means, not_taken, room_means, unknown_means, lists_mean}
 
 -- ---- The calls
 

@@ -20,8 +20,10 @@ use Rattle.definitions.specs.Window.{area_in, slots_in, window_of}
 use Rattle.definitions.specs.History.{Call, after_all}
 use Rattle.definitions.specs.Meaning.{Spot, OnLine, AtEnd, InArea, InBlock, In, MeetsArea, Meets, MeetsWindow, InWindow, Conflicts, OnlyShared, TwoShared, SameEnds, KindIs, Criteria, IsTree, LeafAt, ListedFrom, Stored, Tabled, Live, SoundMap, Answers, Tells, AnswersTo}
 use Rattle.plane.specs.Crossing.{Proper, conflict_iff}
-use Rattle.plane.specs.Kinds.{kind_iff, one_kind, conflict_kinds}
-use Rattle.plane.specs.Meeting.{meets_area_iff, meets_iff}
+use Rattle.plane.specs.Kinds.{kind_iff, one_kind}
+use Rattle.plane.proofs.OneOfFour.{conflict_kinds}
+use Rattle.plane.specs.Meeting.{meets_area_iff}
+use Rattle.plane.proofs.Meeting.{meets_iff}
 use Rattle.plane.specs.Whole.{MeetsWhole, ConflictsWhole, nothing_lost}
 use Rattle.meaning.specs.Apart.{leaf_lists, leaves_exact}
 use Rattle.meaning.specs.Everywhere.{in_a_leaf}
@@ -36,14 +38,14 @@ use Rattle.meaning.specs.SoundMeans.{sound_means}
 use Rattle.meaning.specs.Window.{window_iff}
 use Rattle.meaning.specs.Stored.{stored_lists, lists_stored, tabled_iff}
 use Rattle.history.specs.Demand.{Held, Distinct, given_by, heard, Stands, live_held, SameLines, Alike}
-use Rattle.history.specs.Exact.{start_exact, insert_exact, delete_exact, locate_exact, show_exact, no_slot_16}
-use Rattle.history.specs.Grown.{grown, grown_sound, grown_held, grown_known}
-use Rattle.history.specs.Holds.{demand_3}
+use Rattle.history.proofs.Exact.{start_exact, insert_exact, delete_exact, locate_exact, show_exact, no_slot_16}
+use Rattle.history.proofs.Grown.{grown, grown_sound, grown_held, grown_known}
+use Rattle.history.proofs.Holds.{demand_3}
 use Rattle.history.specs.Refusals.{None, Some, Lowest, WrongLengths, WrongLists, Unsound, AboveGrid, EndsEqual, InTheWay, AllTaken, Vacant, NeedsMore, TooLarge, Unknown, WrongWindow, TooShort, All0, PutIn, TakenOut, AnswersAll}
-use Rattle.history.specs.Remains.{delete_tree}
-use Rattle.history.specs.Room.{no_room_exact}
-use Rattle.history.specs.Window.{window_exact}
-use Rattle.history.specs.Accepted.{start_accepted, insert_accepted, delete_accepted, number_tells}
+use Rattle.history.proofs.Remains.{delete_tree}
+use Rattle.history.proofs.Room.{no_room_exact}
+use Rattle.history.proofs.Window.{window_exact}
+use Rattle.history.proofs.Accepted.{start_accepted, insert_accepted, delete_accepted, number_tells}
 
 -- ---- The one number: refusal × 2^32 + detail
 

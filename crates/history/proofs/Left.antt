@@ -23,8 +23,8 @@ use Rattle.meaning.specs.Rules.{fewer}
 use Rattle.meaning.specs.Slots.{zero_at, put, put_at, as_long, bare, bare_at, as_long', other_slot}
 use Rattle.meaning.specs.Sound.{Sound, fits_nodes, fits_listings}
 use Rattle.meaning.specs.Stored.{lists_stored}
-use Rattle.history.specs.Held.{known_live}
-use Rattle.history.specs.Ledger.{known_there}
+use Rattle.history.proofs.Held.{known_live}
+use Rattle.history.proofs.Ledger.{known_there}
 use Rattle.history.specs.Refusals.{AsLong, All0, OnlySlot, PutIn, TakenOut, AnswersAll, NeedsMore}
 
 -- ---- Start

@@ -12,9 +12,9 @@ use Rattle.meaning.specs.Fair.{Fair}
 use Rattle.meaning.specs.Slots.{same_or_not, put_at, as_long, others_live, others_line, rest_line, gift_lives, rest_live, bare_dead, as_long'}
 use Rattle.meaning.specs.Sound.{Sound, sound→, sound←}
 use Rattle.history.specs.Demand.{Restored}
-use Rattle.history.specs.Held.{free_dead}
-use Rattle.history.specs.Kept.{Passed, Outcome, kept, took, insert_outcome, insert_sound}
-use Rattle.history.specs.Ledger.{Free, free_first}
+use Rattle.history.proofs.Held.{free_dead}
+use Rattle.history.proofs.Kept.{Passed, Outcome, kept, took, insert_outcome, insert_sound}
+use Rattle.history.proofs.Ledger.{Free, free_first}
 use Rattle.std.specs.Prelude.{◌≡◌, ◌⊎◌, Bool, true, false, List, [], ◌∷◌, map, ℕ, ◌+◌, ◌*◌, ◌/◌, ◌%◌, ◌≤◌, ◌<◌, leb}
 use Rattle.std.proofs.Math.Path.{refl}
 use Rattle.std.proofs.Common.{sym, ◌∙◌, ap, subst, inl, inr, arith, leb-true, lt-ltb, eq-eqb}

@@ -15,7 +15,7 @@ use Rattle.meaning.specs.Means.{slots_rising}
 use Rattle.meaning.specs.Rules.{by_leaf, by_divided, sons_by, meets_ends}
 use Rattle.meaning.specs.Sound.{Sound, sound→}
 use Rattle.history.specs.Demand.{held_at, given_at, live_given, SameLines, SameShown, Alike, leaves, fours}
-use Rattle.history.specs.Kept.{history_sound}
+use Rattle.history.proofs.Kept.{history_sound}
 use Rattle.std.specs.Prelude.{◌≡◌, refl, Bool, true, false, not, ◌&&◌, ◌||◌, ℕ, zero, suc, ◌+◌, ◌^◌, ◌≤◌, ◌<◌, eqb, length}
 use Rattle.std.proofs.Math.Path.{sym, ap}
 use Rattle.std.proofs.Common.{◌∙◌, arith, ne_eqb}

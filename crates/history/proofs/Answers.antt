@@ -11,11 +11,11 @@ use Rattle.meaning.specs.Fair.{Fair}
 use Rattle.meaning.specs.Rules.{fewer}
 use Rattle.meaning.specs.Slots.{as_long'}
 use Rattle.meaning.specs.Sound.{Sound, sound←, fits_nodes, fits_listings}
-use Rattle.history.specs.Held.{known_live}
+use Rattle.history.proofs.Held.{known_live}
 use Rattle.meaning.specs.Changes.{sub_freed}
-use Rattle.history.specs.Kept.{Outcome, kept, took, insert_outcome, insert_sound, delete_sound, start_sound, calls_sound}
-use Rattle.history.specs.Ledger.{known_there, Deleted, delete_is, refused_ever_after, Deleted.refused as d_refused, Deleted.removed as d_removed}
-use Rattle.history.specs.Restores.{fit_new, delete_done}
+use Rattle.history.proofs.Kept.{Outcome, kept, took, insert_outcome, insert_sound, delete_sound, start_sound, calls_sound}
+use Rattle.history.proofs.Ledger.{known_there, Deleted, delete_is, refused_ever_after, Deleted.refused as d_refused, Deleted.removed as d_removed}
+use Rattle.history.proofs.Restores.{fit_new, delete_done}
 use Rattle.std.specs.Prelude.{◌≡◌, Bool, ◌&&◌, ℕ, ◌/◌, ◌%◌, ◌≤◌, ◌<◌, leb, eqb, length}
 use Rattle.std.proofs.Math.Path.{refl}
 use Rattle.std.proofs.Math.Bool.{true, false}

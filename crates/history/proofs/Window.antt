@@ -16,8 +16,8 @@ use Rattle.definitions.specs.Window.{Windowed, windowed, window_fits, area_in, s
 use Rattle.plane.specs.Compare.{not_more}
 use Rattle.meaning.specs.Chain.{Each, chain→, chain_fails}
 use Rattle.meaning.specs.Window.{one_list, window_iff}
-use Rattle.history.specs.Cascade.{tested, gives, Came, kept, made, plain, detailed, alone}
-use Rattle.history.specs.Conditions.{wrong_means, unsound_means}
+use Rattle.history.proofs.Cascade.{tested, gives, Came, kept, made, plain, detailed, alone}
+use Rattle.history.proofs.Conditions.{wrong_means, unsound_means}
 use Rattle.history.specs.Refusals.{None, WrongLengths, Unsound, WrongWindow, off_grid, inverted_x, inverted_y, Number, TooShort, FrontShows, WindowExact, window_tests}
 
 -- ---- 9

@@ -16,8 +16,8 @@ use Rattle.meaning.specs.Rules.{fewer, by_leaf}
 use Rattle.meaning.specs.Changes.{slots_freed, apart_freed, sub_freed, slots_placed}
 use Rattle.meaning.specs.Slots.{same_or_not, placed_slots, others_live, others_line, new_line, zero_at, none_live, no_lines}
 use Rattle.meaning.specs.Sound.{Sound, sound←, fits_nodes, fits_listings, conflict_back, grid_proper, live_proper}
-use Rattle.history.specs.Cascade.{branch, by_first}
-use Rattle.history.specs.Ledger.{free_first, Deleted, refused, removed, delete_is, known_there}
+use Rattle.history.proofs.Cascade.{branch, by_first}
+use Rattle.history.proofs.Ledger.{free_first, Deleted, refused, removed, delete_is, known_there}
 use Rattle.std.specs.Prelude.{◌≡◌, ◌⊎◌, Bool, ◌&&◌, ◌||◌, leb, ltb, eqb, length}
 use Rattle.std.proofs.Math.Path.{refl, ap}
 use Rattle.std.proofs.Common.{sym, ◌∙◌, inl, inr}
