@@ -1,6 +1,6 @@
 -- A signed local holds bits. `Holds w v z b`: the bits v stand for the integer z, which is at most b away from 0.
 use Rattle.std.specs.Prelude.{◌≡◌, ℕ, ◌+◌, ◌*◌, ◌≤◌, ◌<◌, ◌^◌, ℤ, pos, nat_abs, ◌+ℤ◌, ◌-ℤ◌, ◌*ℤ◌}
-use Rattle.std.proofs.Common.{◌∙◌, lt_of_le_of_lt, arith}
+use Rattle.std.proofs.Common.{◌∙◌, lt_of_le_of_lt}
 use Rattle.std.specs.Int.{Width}
 use mir.Val.{SFits, hbits, to_z, of_z}
 use Rattle.std.proofs.lemmas.Int.{to_z-of_z, to_z_pos}

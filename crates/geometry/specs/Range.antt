@@ -1,12 +1,12 @@
 -- Where line ends and corners lie, in half-steps, and how far apart they are: what a turn is small by.
-use Rattle.std.specs.Prelude.{◌≡◌, Bool, true, false, ℕ, ◌*◌, ◌≤◌, ltb, nat_abs, ◌*ℤ◌}
+use Rattle.std.specs.Prelude.{◌≡◌, Bool, true, false, ℕ, ◌≤◌, ltb, nat_abs}
 use Rattle.std.proofs.Common.{arith}
 use Rattle.std.proofs.Math.IntN.{sub_ℕ}
-use Rattle.algebra.specs.Size.{abs_subℕ, abs_sub_le, abs_mul_le}
+use Rattle.algebra.specs.Size.{abs_subℕ}
 use Rattle.algebra.specs.Words.{if◌then◌else◌}
 use Rattle.definitions.specs.declared.Point.{Point}
 use Rattle.definitions.specs.Lookup.{west_end, east_end}
-use Rattle.definitions.specs.Shape.{Line, grid_point, turn}
+use Rattle.definitions.specs.Shape.{Line, grid_point}
 
 -- a grid point, as every line end is: 1 to 32,767 each way
 pub record End (p : Point) : Type 0 where

@@ -8,7 +8,7 @@ use Rattle.algebra.specs.Words.{those, every, padded}
 use Rattle.definitions.specs.Calls.{cleared, given_line, Reply, reply, refusal_of, insert_of, delete_of, rebuilt, placed, freed, all_on_grid, no_length, conflicting, conflict_detail, free_slots, room_for, known}
 use Rattle.definitions.specs.History.{Call, insert, delete, locate, show, window, reply_to, after_all}
 use Rattle.definitions.specs.Shape.{within, Line, conflict, on, is_end, parts, left_of, right_of}
-use Rattle.definitions.specs.Tables.{Tables, generation, x1, y1, x2, y2, is_live, slots_of, live_slots, line_at, live_lines, live_sound, empty_sound, slot_sound, none_conflict, node_table, listing_table, lengths_fit, sound}
+use Rattle.definitions.specs.Tables.{Tables, generation, is_live, slots_of, live_slots, line_at, live_lines, live_sound, empty_sound, slot_sound, none_conflict, node_table, listing_table, lengths_fit, sound}
 use Rattle.definitions.specs.Tree.{leaf, listed, tree, nodes_of, listings_of, Rule}
 use Rattle.meaning.specs.Fair.{Fair}
 use Rattle.plane.specs.Crossing.{Proper}

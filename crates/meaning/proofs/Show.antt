@@ -1,21 +1,20 @@
 -- Show leaf: on a sound map the leaf found holds the point, and the part is its list.
-use Rattle.std.specs.Prelude.{◌≡◌, Bool, true, false, ◌&&◌, ltb, take, drop}
+use Rattle.std.specs.Prelude.{◌≡◌, Bool, true, false, ◌&&◌}
 use Rattle.std.proofs.Math.Path.{refl}
-use Rattle.std.proofs.Common.{sym, ◌∙◌, ap, subst, arith, length-append, take_at, drop_at}
-use mathlib.Core.List.{List, [], ◌++◌, append_assoc}
-use Prim.Native.Nat.{ℕ, zero, suc, ◌+◌, ◌-◌, ◌/◌, ◌^◌, ◌≤◌, ◌<◌}
+use Rattle.std.proofs.Common.{sym, subst, arith}
+use mathlib.Core.List.{List, [], ◌++◌}
+use Prim.Native.Nat.{ℕ, zero, suc, ◌+◌, ◌-◌, ◌^◌}
 use Rattle.std.proofs.Math.ListN.{length, replicate}
-use borrow.Author.Tests.{ltb-true, ltb-false, leb-true}
-use Rattle.definitions.specs.declared.Answer.TheVariants.{Done}
+use borrow.Author.Tests.{leb-true}
 use Rattle.definitions.specs.declared.Point.{Point}
 use Rattle.algebra.specs.Tests.{and_l, and_r}
 use Rattle.algebra.specs.Words.{padded}
-use Rattle.definitions.specs.Lookup.{Showing, Leaf, leaf_at, leaf_over, show_of}
-use Rattle.definitions.specs.Meaning.{In, LeafAt, here, in_nw, in_ne, in_sw, in_se, ListedFrom, at_once, from_nw, from_ne, from_sw, from_se}
-use Rattle.definitions.specs.Shape.{Line, Block, grid_point, whole_map, nw_of, ne_of, sw_of, se_of}
+use Rattle.definitions.specs.Lookup.{leaf_at, leaf_over, show_of}
+use Rattle.definitions.specs.Meaning.{LeafAt, ListedFrom}
+use Rattle.definitions.specs.Shape.{Line, Block, grid_point, whole_map}
 use Rattle.definitions.specs.Tables.{Tables, lengths_fit, live_lines, on_grid, listing_table}
-use Rattle.definitions.specs.Tree.{Rule, Tree, leaf, divided, listed, block, tree_by, tree, listings_of}
-use Rattle.plane.specs.Blocks.{double, half_power, nw_is, ne_is, sw_is, se_is}
+use Rattle.definitions.specs.Tree.{Rule, Tree, listed, block, tree_by, tree, listings_of}
+use Rattle.plane.specs.Blocks.{nw_is, ne_is, sw_is, se_is}
 use Rattle.meaning.specs.Rules.{by_leaf, by_divided}
 use Rattle.meaning.specs.Sound.{Sound, sound←}
 use Rattle.meaning.specs.Show.{Found, Finds, finds_leaf, finds_four, Starts, listed_from, ShowsLeaf}

@@ -5,7 +5,7 @@ use Rattle.algebra.specs.Tests.{no_path, and_l, and_r, and_b, or_l, or_r}
 use Rattle.algebra.specs.Words.{those, every}
 use Rattle.definitions.specs.Calls.{placed, freed, all_on_grid, no_length}
 use Rattle.definitions.specs.Shape.{conflict}
-use Rattle.definitions.specs.Tables.{generation, x1, y1, x2, y2, is_live, slots_of, live_slots, line_at, live_lines, on_grid, live_sound, empty_sound, slot_sound, none_conflict}
+use Rattle.definitions.specs.Tables.{generation, is_live, slots_of, live_slots, line_at, live_lines, on_grid, live_sound, empty_sound, slot_sound, none_conflict}
 use Rattle.meaning.specs.Fair.{Sub, none, keep, skip}
 use Rattle.meaning.specs.Slots.{same_or_not, freed_slots, rest_sound, rest_live, placed_slots, others_sound, bare_at, bare_dead, rest_line, put_at, gift_lives}
 use Rattle.std.specs.Prelude.{◌≡◌, refl, ◌⊎◌, false, ◌&&◌, ◌||◌, ℕ, ◌+◌, ◌*◌, ◌≤◌, leb, length}

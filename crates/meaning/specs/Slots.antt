@@ -3,7 +3,7 @@ use Rattle.definitions.specs.declared.Given.{Given}
 use Rattle.algebra.specs.Lists.{those_no}
 use Rattle.algebra.specs.Words.{those, up_from}
 use Rattle.definitions.specs.Calls.{placed, freed, with_slot, given_line}
-use Rattle.definitions.specs.Tables.{entry, generation, is_live, slots_of, x1, y1, x2, y2, live_slots, line_at, live_lines, live_sound, empty_sound, slot_sound}
+use Rattle.definitions.specs.Tables.{entry, generation, is_live, slots_of, live_slots, line_at, live_lines, live_sound, empty_sound, slot_sound}
 use Rattle.plane.specs.Compare.{order}
 use Rattle.std.specs.Prelude.{◌≡◌, ◌⊎◌, true, false, List, [], ◌∷◌, ◌++◌, ℕ, zero, suc, ◌+◌, ◌*◌, ◌-◌, ◌/◌, ◌≤◌, ◌<◌, length, take, replicate}
 use Rattle.std.proofs.Math.Path.{refl, ap, subst}

@@ -5,7 +5,7 @@ use Rattle.std.proofs.Common.{ap, ◌∙◌, inl, inr, arith}
 use Prim.Native.Nat.{ℕ, suc, ◌+◌, ◌-◌, ◌*◌, ◌≤◌, ◌<◌}
 use Rattle.std.proofs.Math.Dec.{ltb}
 use Rattle.definitions.specs.declared.Point.{Point}
-use Rattle.definitions.specs.Shape.{Block, north, whole_map}
+use Rattle.definitions.specs.Shape.{Block, whole_map}
 use Rattle.geometry.specs.Means.{block_of}
 use Rattle.plane.specs.Compare.{order}
 use Rattle.meaning.specs.Column.{near, far}

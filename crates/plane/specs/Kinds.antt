@@ -15,7 +15,7 @@ use Rattle.plane.specs.Says.{both}
 use Rattle.plane.specs.Segments.{straight_of, Proper, differ}
 use Rattle.plane.specs.Overlap.{Even}
 use Rattle.plane.specs.Ends.{straight_says, same_says, same_refl, end_says, end_cases}
-use Rattle.plane.specs.Crossing.{Clash, Parts, parts_says, conflict_says, conflict_iff, at?, at_a, at_b, crosses, ends_agree}
+use Rattle.plane.specs.Crossing.{Clash, Parts, parts_says, conflict_says, at?, at_a, at_b, crosses, ends_agree}
 use Rattle.plane.specs.OneShared.{one_spot}
 use Rattle.plane.specs.MoreShared.{two_a, two_b, two_c, two_d}
 

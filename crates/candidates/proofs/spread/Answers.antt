@@ -1,4 +1,3 @@
-use Prim.Native.Nat.{◌-◌}
 use native.Mathlib.Omega.{arith}
 use lib.ListN.{length-set}
 use Rattle.candidates.proofs.Spreading.{turned_none, turned_on, on_map, sons_asked, son_done}
@@ -27,7 +26,7 @@ bounds-slots-se c = simp length-set (omega arith)
 
 pub overflow_add-se : goal.overflow_add-se
 overflow_add-se c =
-    let g = c.before.before.before.before.before in 
+    let g = c.before.before.before.before.before in
     let l = g in
     omega (arith, c.one-se.ensures, l.loop-i.invariant, l.requires, l.before.before, l.before, g.loop-i-test.true)
 

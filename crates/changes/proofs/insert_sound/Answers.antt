@@ -19,12 +19,12 @@ pub first_conflict-requires : goal.first_conflict-requires
 first_conflict-requires c = tested c.requires (sym c.all_on_grid.ensures ∙ c.if-not-all_on_grid.false) (sym c.no_length.ensures ∙ c.if-no_length.false)
 
 pub conflict_detail-requires : goal.conflict_detail-requires
-conflict_detail-requires c = 
+conflict_detail-requires c =
     let h = conflict_there c.requires c.args.g (sym c.first_conflict.ensures ∙ c.in-At.is) in
     (h.0, h.1, sym c.all_on_grid.ensures ∙ c.if-not-all_on_grid.false)
 
 pub returns-in-At : goal.returns-in-At
-returns-in-At c = 
+returns-in-At c =
     let f = first_at _ (sym c.first_conflict.ensures ∙ c.in-At.is) in
     ap (λ (d : ℕ). reply (Conflict d) (tables c.args.lines.now c.args.nodes.now c.args.listings.now)) c.conflict_detail.ensures
     ∙ sym (insert_5 base_rule _ _ c.requires.fit c.requires.ok (sym c.all_on_grid.ensures ∙ c.if-not-all_on_grid.false) (sym c.no_length.ensures ∙ c.if-no_length.false) _ f.0 f.1)

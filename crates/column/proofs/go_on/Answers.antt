@@ -30,7 +30,7 @@ pub overflow_add-result : goal.overflow_add-result
 overflow_add-result c = omega (arith, c.requires)
 
 pub returns : goal.returns
-returns c = 
+returns c =
     record {
       which = c.strip_of-two.result.which;
       above = block_of c.strip_of-two.result.above;

@@ -35,7 +35,7 @@ pub touch-requires : goal.touch-requires
 touch-requires c = let s = c.requires in (s.2, s.3)
 
 pub returns : goal.returns
-returns c = 
+returns c =
     c.touch.ensures ∙ touch_is (line_of c.args.l) (line_of c.args.m) c.requires.0 c.requires.1
     (sym c.same_point.ensures ∙ c.if-same_point.false) (sym c.same_point-2.ensures ∙ c.if-same_point-2.false)
     (sym c.same_point-3.ensures ∙ c.if-same_point-3.false) (sym c.same_point-4.ensures ∙ c.if-same_point-4.false)

@@ -1,5 +1,4 @@
 use Rattle.algebra.specs.Words.{is_zero}
-use Rattle.definitions.specs.Shape.{turn}
 use Rattle.geometry.specs.Bits.{told}
 use Rattle.geometry.specs.Range.{end_corner}
 use Rattle.geometry.specs.Join.{fork_yes, fork_no}

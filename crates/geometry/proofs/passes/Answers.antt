@@ -8,5 +8,5 @@ use Rattle.geometry.specs.Look.{one_sign}
 use Rattle.geometry.proofs.passes.Goals as goal
 
 pub returns : goal.returns
-returns c = 
+returns c =
     ap (λ b. beq b c.args.south) (c.left.ensures ∙ ap is_positive (to_z-of_z w32 c.args.t c.ranges.t)) ∙ one_sign c.args.south c.args.t c.requires

@@ -26,7 +26,7 @@ module _ (d : After-straight) where
   zero-says = sym (by-ends (λ a b. is_zero (turn a b d.args.p))) ∙ told is_zero d.turn-t.type_inv d.turn-t.ensures d.straight.ensures
 
 pub returns-then-not-between : goal.returns-then-not-between
-returns-then-not-between c = 
+returns-then-not-between c =
     stand_1 c.args.south (line_of c.args.l) c.args.p (sym c.between.ensures ∙ c.if-not-between.true)
 
 pub turn-t-requires : goal.turn-t-requires

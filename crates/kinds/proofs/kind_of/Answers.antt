@@ -16,7 +16,7 @@ pub turn-t-requires : goal.turn-t-requires
 turn-t-requires c = let s = c.requires in (s.0.first, s.0.second, end_corner s.1.second)
 
 pub returns-then-straight : goal.returns-then-straight
-returns-then-straight c = 
+returns-then-straight c =
     told_overlap (line_of c.args.l) (line_of c.args.m) (sym c.both_ends.ensures ∙ c.if-both_ends.false)
     (told is_zero c.turn-s.type_inv c.turn-s.ensures c.straight.ensures) (told is_zero c.turn-t.type_inv c.turn-t.ensures c.straight-2.ensures) c.if-straight.true
 
@@ -27,14 +27,14 @@ pub turn-v-requires : goal.turn-v-requires
 turn-v-requires c = let s = c.requires in (s.1.first, s.1.second, end_corner s.0.second)
 
 pub returns-then-both_sides : goal.returns-then-both_sides
-returns-then-both_sides c = 
+returns-then-both_sides c =
     told_crossing (line_of c.args.l) (line_of c.args.m) (sym c.both_ends.ensures ∙ c.if-both_ends.false)
     (told is_zero c.turn-s.type_inv c.turn-s.ensures c.straight.ensures) (told is_zero c.turn-t.type_inv c.turn-t.ensures c.straight-2.ensures) c.if-straight.false
     (told₂ both_apart c.turn-s.type_inv c.turn-s.ensures c.turn-t.type_inv c.turn-t.ensures c.both_sides.ensures)
     (told₂ both_apart c.turn-u.type_inv c.turn-u.ensures c.turn-v.type_inv c.turn-v.ensures c.both_sides-2.ensures) c.if-both_sides.true
 
 pub returns : goal.returns
-returns c = 
+returns c =
     told_touching (line_of c.args.l) (line_of c.args.m) (sym c.both_ends.ensures ∙ c.if-both_ends.false)
     (told is_zero c.turn-s.type_inv c.turn-s.ensures c.straight.ensures) (told is_zero c.turn-t.type_inv c.turn-t.ensures c.straight-2.ensures) c.if-straight.false
     (told₂ both_apart c.turn-s.type_inv c.turn-s.ensures c.turn-t.type_inv c.turn-t.ensures c.both_sides.ensures)

@@ -1,10 +1,5 @@
 -- `leaves::fan_conflicts` and `leaves::side_conflicts` meet their contracts.
-use mathlib.Core.Path.{ap, ◌∙◌}
-use mathlib.Core.Bool.{not}
-use mathlib.Core.List.{List}
-use Prim.Native.Nat.{ℕ}
 use native.Mathlib.Omega.{arith}
-use Rattle.leaves.specs.Pass.{leaf_apart}
 use Rattle.leaves.proofs.Parting.{pivot_end}
 use Rattle.leaves.proofs.Fan.{not_few, not_none, first_side, second_side, kept_fan}
 use Rattle.leaves.proofs.+fan_conflicts_side_conflicts.Goals as goal

@@ -1,9 +1,8 @@
 use mathlib.Core.Path.{sym, ap, ◌∙◌}
-use Prim.Native.Nat.{◌<◌, ◌-◌}
+use Prim.Native.Nat.{◌<◌}
 use native.Mathlib.Omega.{arith}
 use lib.ListN.{length, drop_of_length-le}
 use Rattle.algebra.specs.Words.{every}
-use Rattle.leaves.specs.Sides.{ends_at}
 use Rattle.leaves.proofs.Turns.{good_at}
 use Rattle.leaves.proofs.Fan.{ends_is, every_turn}
 use Rattle.leaves.proofs.all_end_at.Goals as goal

@@ -1,7 +1,6 @@
 use borrow.Author.Tests.{not-true, not-false}
 use mathlib.Core.Path.{sym, ap, ◌∙◌}
 use mathlib.Core.Bool.{not}
-use Prim.Native.Nat.{◌-◌}
 use native.Mathlib.Omega.{arith}
 use Rattle.leaves.proofs.Ahead.{ahead_start, ahead_end, ahead_parted, leaf_here}
 use Rattle.leaves.proofs.conflicts_in_leaves.Goals as goal
@@ -23,7 +22,7 @@ pub returns-then-leaf_conflicts : goal.returns-then-leaf_conflicts
 returns-then-leaf_conflicts c = let l = leaf_here c.loop-node.invariant (omega (arith, c.loop-node-test.true)) c.wide-n.ensures c.if-n-ne65535.true in sym (ap not (l.stops (not-true _ (sym c.leaf_conflicts.ensures ∙ c.if-leaf_conflicts.true))))
 
 pub loop-node-preserved : goal.loop-node-preserved
-loop-node-preserved c = 
+loop-node-preserved c =
     let inv = c.loop-node.invariant in
     let here = leaf_here inv (omega (arith, c.loop-node-test.true)) c.wide-n.ensures in
     elim c.if-n-ne65535.branch [

@@ -1,6 +1,5 @@
 use mathlib.Core.Path.{sym, ap, ◌∙◌}
 use mathlib.Core.Bool.{not}
-use Prim.Native.Nat.{◌-◌}
 use lib.ListN.{drop_of_length-le}
 use Rattle.tables.specs.Rows.{line_ends}
 use Rattle.leaves.specs.Pass.{leaf_apart}

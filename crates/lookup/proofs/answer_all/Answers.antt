@@ -16,5 +16,5 @@ pub slice_bounds-answer_each-end-2 : goal.slice_bounds-answer_each-end-2
 slice_bounds-answer_each-end-2 c = simp length-take (omega (arith, front_fits c.live_slots-n.ensures))
 
 pub answer_each-requires : goal.answer_each-requires
-answer_each-requires c = 
+answer_each-requires c =
     (record { chart = record { map = c.requires.0; room = omega (arith, c.requires.0.few_nodes, c.index_nodes.auto.index); indexed = c.index_nodes.ensures _ (mapped_standing c.requires.0) }; all = c.live_slots-n.ensures.front }, c.requires.1, record { path_room = refl; later_room = refl })

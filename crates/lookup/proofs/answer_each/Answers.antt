@@ -1,5 +1,4 @@
 use mathlib.Core.Path.{refl, ◌∙◌}
-use Prim.Native.Nat.{◌-◌}
 use native.Mathlib.Omega.{arith}
 use lib.ListN.{length-set}
 use Rattle.lookup.proofs.Answering.{answered_turn, answered_end}
@@ -13,7 +12,7 @@ pub answer_to-r-requires : goal.answer_to-r-requires
 answer_to-r-requires c = let s = c.requires in let l = c.loop-at.invariant in (s.0, record { path_room = l.3 ∙ s.2.path_room; later_room = l.4 ∙ s.2.later_room })
 
 pub loop-at-preserved : goal.loop-at-preserved
-loop-at-preserved c = 
+loop-at-preserved c =
     (omega (arith, c.loop-at-test.true, c.loop-at.invariant.1), simp length-set c.loop-at.invariant.1, answered_turn _ _ c.loop-at.answers c.loop-at.at c.loop-at-test.true (omega (arith, c.loop-at-test.true, c.loop-at.invariant.1, c.requires.1)) c.answer_to-r.ensures c.loop-at.invariant.2, c.answer_to-r.auto.path ∙ c.loop-at.invariant.3, c.answer_to-r.auto.later ∙ c.loop-at.invariant.4)
 
 pub returns : goal.returns

@@ -1,6 +1,5 @@
 -- `lookup::walk_column` meets its contract. The invariant: the walk stands at a leaf, with the best line of all that was seen before it.
 use mathlib.Core.Path.{◌≡◌}
-use Prim.Native.Nat.{◌-◌}
 use lib.ListN.{length}
 use Rattle.lookup.proofs.Walk.{WalkAt}
 use Rattle.lookup.proofs.walk_column.Given as goal

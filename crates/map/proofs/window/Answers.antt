@@ -15,7 +15,7 @@ pub returns-then-not-is_sound : goal.returns-then-not-is_sound
 returns-then-not-is_sound c = sym (window_2 base_rule _ _ _ (sym c.lengths_fit.ensures ∙ c.if-not-lengths_fit.false) (sym c.is_sound.ensures ∙ c.if-not-is_sound.true))
 
 pub returns-then-not-window_fits : goal.returns-then-not-window_fits
-returns-then-not-window_fits c = 
+returns-then-not-window_fits c =
     sym (window_9 base_rule _ _ _ (sym c.lengths_fit.ensures ∙ c.if-not-lengths_fit.false) (sym c.is_sound.ensures ∙ c.if-not-is_sound.false) (sym c.window_fits.ensures ∙ c.if-not-window_fits.true))
 
 pub list_window-requires : goal.list_window-requires
@@ -26,6 +26,6 @@ list_window-requires c = (
 )
 
 pub returns : goal.returns
-returns c = 
+returns c =
     c.list_window.ensures
     ∙ sym (window_0 base_rule _ _ _ (sym c.lengths_fit.ensures ∙ c.if-not-lengths_fit.false) (sym c.is_sound.ensures ∙ c.if-not-is_sound.false) (sym c.window_fits.ensures ∙ c.if-not-window_fits.false))

@@ -1,7 +1,7 @@
 -- `path::turn_off` meets its contract. The invariant: no level passed so far has its other son on the way.
 use mathlib.Core.Path.{◌≡◌}
 use mathlib.Core.Bool.{not}
-use Prim.Native.Nat.{ℕ, ◌-◌, ◌≤◌, ◌<◌}
+use Prim.Native.Nat.{ℕ, ◌≤◌, ◌<◌}
 use Rattle.path.specs.Asked.{went_up}
 use Rattle.path.proofs.turn_off.Given as goal
 

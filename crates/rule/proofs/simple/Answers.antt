@@ -26,7 +26,7 @@ all_hang_on-requires c = rest_candidates (record { some = c.if-slots-eq0.false; 
 
 pub returns-then-first : goal.returns-then-first
 returns-then-first c =
-    let g = c.before.before.before.before.before in 
+    let g = c.before.before.before.before.before in
     c.all_hang_on.ensures ∙ first_inside (record { some = g.if-slots-eq0.false; candidates = g.requires; is = g.line_at-l.ensures }) (sym g.inside-first.ensures ∙ c.if-first.true) (sym (ap₂ (λ (p q : Bool). p && q) g.inside-first.ensures g.inside-second.ensures) ∙ c.if-first-second.false)
 
 pub all_hang_on-requires-then-second : goal.all_hang_on-requires-then-second
@@ -34,10 +34,10 @@ all_hang_on-requires-then-second c = rest_candidates (record { some = c.if-slots
 
 pub returns-then-second : goal.returns-then-second
 returns-then-second c =
-    let g = c.before.before.before.before.before.before in 
+    let g = c.before.before.before.before.before.before in
     c.all_hang_on-then-second.ensures ∙ second_inside (record { some = g.if-slots-eq0.false; candidates = g.requires; is = g.line_at-l.ensures }) (sym g.inside-first.ensures ∙ c.if-first.false) (sym g.inside-second.ensures ∙ c.if-second.true)
 
 pub returns : goal.returns
 returns c =
-    let g = c.before.before.before.before in 
+    let g = c.before.before.before.before in
     many (record { some = g.if-slots-eq0.false; candidates = g.requires; is = g.line_at-l.ensures }) (sym g.inside-first.ensures ∙ c.if-first.false) (sym g.inside-second.ensures ∙ c.if-second.false) c.if-slots-eq1.false

@@ -9,7 +9,7 @@ pub line_at-requires : goal.line_at-requires
 line_at-requires c = way_map (rw c.in-At.is at c.requires.first)
 
 pub comes_first-requires : goal.comes_first-requires
-comes_first-requires c = 
+comes_first-requires c =
     let f = rw c.in-At.is at c.requires.first in
     let e = eastern _ _ c.requires.second f c.requires.is_line c.line_at.ensures c.eastward.ensures c.eastward-in-At.ensures in
     (e.0, e.1, eastward_ends _ c.eastward.ensures (line_ends (way_map c.requires.second) c.requires.is_line), eastward_ends _ c.eastward-in-At.ensures (line_ends (way_map f) c.line_at.ensures))

@@ -1,5 +1,4 @@
 use mathlib.Core.Path.{sym, ap, ◌∙◌}
-use Prim.Native.Nat.{◌-◌}
 use native.Mathlib.Omega.{arith}
 use borrow.Author.Rules.{rules}
 use Rattle.definitions.specs.Calls.{given_line}
@@ -26,15 +25,15 @@ hinders-requires c = (
 
 pub returns-then-hinders : goal.returns-then-hinders
 unfolding slots_of
-returns-then-hinders c = 
+returns-then-hinders c =
     sym (ap first_slot_of (conflicting_is _ _ c.line_of-l.ensures)
     ∙ onward_found _ _ c.loop-s.s c.loop-s-test.true (sym (hinders_at_lem _ _ c.row_at.ensures _) ∙ sym c.hinders.ensures ∙ c.if-hinders.true) c.loop-s.invariant.1)
 
 pub loop-s-preserved : goal.loop-s-preserved
-loop-s-preserved c = 
+loop-s-preserved c =
     (omega arith, onward_next _ _ c.loop-s.s c.loop-s-test.true (sym (hinders_at_lem _ _ c.row_at.ensures _) ∙ sym c.hinders.ensures ∙ c.if-hinders.false) c.loop-s.invariant.1)
 
 pub returns : goal.returns
 unfolding slots_of
-returns c = 
+returns c =
     sym (ap first_slot_of (conflicting_is _ _ c.line_of-l.ensures) ∙ onward_none _ _ c.loop-s.s c.loop-s-test.false c.loop-s.invariant.1)

@@ -12,6 +12,6 @@ returns-then-lines-slot c = let out : length c.args.lines.now / 8 ≤ c.args.han
 
 pub returns : goal.returns
 unfolding known is_live
-returns c = 
+returns c =
     let there : c.args.handle / 65536 < length c.args.lines.now / 8 = omega arith in
     rw (c.is_live.ensures, c.row_at-row.ensures, c.slot_of-slot.ensures, c.generation_of.ensures, lt-ltb _ _ there)

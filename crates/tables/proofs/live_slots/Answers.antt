@@ -1,5 +1,5 @@
 use mathlib.Core.Path.{◌≡◌, refl, sym, ap, ◌∙◌}
-use Prim.Native.Nat.{◌≤◌, ◌-◌, ◌/◌}
+use Prim.Native.Nat.{◌≤◌, ◌/◌}
 use native.Mathlib.Omega.{arith}
 use lib.ListN.{length, length-set}
 use borrow.Author.Rules.{rules}
@@ -31,6 +31,6 @@ loop-s-preserved c =
 
 pub returns : goal.returns
 unfolding live_slots slots_of
-returns c = 
+returns c =
     let all : c.loop-s.s ≡ length c.args.lines.now / 8 = omega arith in let room : length c.args.lines.now / 8 ≤ length c.args.to.now = omega arith in
     laid_all _ _ _ _ _ c.loop-s.invariant.2 _ all room

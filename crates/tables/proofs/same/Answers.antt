@@ -1,6 +1,5 @@
 use mathlib.Core.Bool.{Bool, ◌&&◌}
 use mathlib.Core.Path.{refl, sym, ap, ap₂, ◌∙◌}
-use Prim.Native.Nat.{◌-◌}
 use native.Mathlib.Omega.{arith}
 use lib.Seq.{take_all}
 use lib.ListN.{get_or}

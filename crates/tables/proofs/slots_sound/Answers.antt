@@ -1,10 +1,7 @@
-use mathlib.Core.Bool.{true}
 use mathlib.Core.Path.{sym, ◌∙◌}
-use Prim.Native.Nat.{◌-◌}
 use native.Mathlib.Omega.{arith}
 use borrow.Author.Count.{below_none, below_more}
 use borrow.Author.Rules.{rules}
-use Rattle.definitions.specs.Tables.{slot_sound}
 use Rattle.tables.specs.Sound.{all_sound, one_unsound}
 use Rattle.tables.specs.Rows.{slot_sound_at}
 use Rattle.tables.proofs.slots_sound.Goals as goal

@@ -1,20 +1,19 @@
 -- `tree::build_block` and `tree::build_sons` meet their contracts.
 use mathlib.Core.Path.{◌≡◌, refl, sym, ap, ◌∙◌, subst}
-use mathlib.Core.List.{List, [], ◌++◌, map}
-use Prim.Native.Nat.{ℕ, ◌+◌, ◌*◌, ◌-◌, ◌<◌}
+use mathlib.Core.List.{List, map}
+use Prim.Native.Nat.{ℕ, ◌-◌}
 use native.Mathlib.Omega.{arith}
-use lib.ListN.{take, drop, length, length-set}
+use lib.ListN.{take, drop, length-set}
 use lib.Seq.{slice}
 use Rattle.algebra.specs.Lists.{part_is}
-use Rattle.definitions.specs.Shape.{Block, nw_of, ne_of, sw_of, se_of}
+use Rattle.definitions.specs.Shape.{Block}
 use Rattle.definitions.specs.Tables.{line_at}
 use Rattle.definitions.specs.Tree.{simple as simpleOf}
 use Rattle.geometry.specs.Means.{block_of}
-use Rattle.tree.specs.declared.Built.TheVariants.{Next}
 use Rattle.rule.specs.Rule.{Candidates, left_whole}
 use Rattle.tree.specs.Builds.{sons_nodes, sons_listings}
 use Rattle.tree.proofs.Sequence.{grown_divided}
-use Rattle.tree.proofs.Sons.{IsDivided, left_whole_lem, is_divided, grown_leaf, grown_none, ready_down, spreadable, nw_of_tree, ne_of_tree, sw_of_tree, se_of_tree, SoFar, no_son, sons_grown, sons_stop, son_ready, son_then}
+use Rattle.tree.proofs.Sons.{left_whole_lem, is_divided, grown_leaf, grown_none, ready_down, spreadable, nw_of_tree, ne_of_tree, sw_of_tree, se_of_tree, no_son, sons_grown, sons_stop, son_ready, son_then}
 use Rattle.tree.proofs.+build_block_build_sons.Goals as goal
 
 -- the part of the slots that is tested is the block's candidates

@@ -1,5 +1,5 @@
 -- `walk::index_block` and `walk::index_sons` meet their contracts: each son stands past its block.
-use mathlib.Core.Path.{◌≡◌, refl, ◌∙◌}
+use mathlib.Core.Path.{refl, ◌∙◌}
 use native.Mathlib.Omega.{arith}
 use Rattle.walk.specs.Placing.{there}
 use Rattle.walk.proofs.Filling.{head, four, next, asked, filled_leaf, filled_four}

@@ -1,5 +1,5 @@
 use mathlib.Core.Path.{◌≡◌, refl, ap}
-use Prim.Native.Nat.{◌+◌, ◌-◌, ◌/◌, ◌<◌}
+use Prim.Native.Nat.{◌+◌, ◌/◌, ◌<◌}
 use native.Mathlib.Omega.{arith}
 use Rattle.definitions.specs.Lookup.{leaf_at}
 use Rattle.definitions.specs.Tree.{Tree}

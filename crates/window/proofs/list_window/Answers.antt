@@ -34,5 +34,5 @@ pub overflow_cast-result : goal.overflow_cast-result
 overflow_cast-result c = record { fits = omega (arith, front_fits c.seen_slots-n.ensures, c.seen_slots-n.auto.to) }
 
 pub returns : goal.returns
-returns c = 
+returns c =
     list_filled (found_in _ c.area_in.ensures c.seen_slots-n.ensures) _ c.if-slots-n.false c.copy.ensures

@@ -9,7 +9,7 @@ pub returns-then-not-overlap : goal.returns-then-not-overlap
 returns-then-not-overlap c = apart_x (area_by c.args.k) (line_of c.args.l) (sym c.overlap.ensures ∙ c.if-not-overlap.true)
 
 pub returns-then-not-overlap-2 : goal.returns-then-not-overlap-2
-returns-then-not-overlap-2 c = 
+returns-then-not-overlap-2 c =
     apart_y (area_by c.args.k) (line_of c.args.l) (sym c.overlap.ensures ∙ c.if-not-overlap.false) (sym c.overlap-2.ensures ∙ c.if-not-overlap-2.true)
 
 pub turn-a-requires : goal.turn-a-requires
@@ -25,6 +25,6 @@ pub turn-d-requires : goal.turn-d-requires
 turn-d-requires c = let s = c.requires in (s.1.first, s.1.second, record { to_east = s.0.east; to_north = s.0.north })
 
 pub returns : goal.returns
-returns c = 
+returns c =
     by_side (area_by c.args.k) (line_of c.args.l) (sym c.overlap.ensures ∙ c.if-not-overlap.false) (sym c.overlap-2.ensures ∙ c.if-not-overlap-2.false)
     (told (called c.turn-a.type_inv c.turn-a.ensures).value (called c.turn-b.type_inv c.turn-b.ensures).value (called c.turn-c.type_inv c.turn-c.ensures).value (called c.turn-d.type_inv c.turn-d.ensures).value c.one_side.ensures)

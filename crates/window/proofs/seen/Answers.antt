@@ -15,13 +15,13 @@ line_of_row-requires c = let m = on_map (entries_of c.args.row) 0 (omega arith) 
 
 pub meets_area-requires : goal.meets_area-requires
 unfolding entries_of is_live
-meets_area-requires c = 
+meets_area-requires c =
     let m = on_map (entries_of c.args.row) 0 (omega arith) c.requires.0 (sym c.is_live.ensures ∙ c.if-is_live.true) in
     (c.requires.1, grid_ends c.line_of_row.ensures (m.grid_x1, m.grid_y1, m.grid_x2, m.grid_y2))
 
 pub returns-then-is_live : goal.returns-then-is_live
 unfolding entries_of is_live line_at
-returns-then-is_live c = 
+returns-then-is_live c =
     rw (sym c.is_live.ensures ∙ c.if-is_live.true) (c.meets_area.ensures ∙ ap (meets_area (area_by c.args.k)) (ap₂ line_from c.line_of_row.ensures.0 c.line_of_row.ensures.1))
 
 pub returns : goal.returns

@@ -1,5 +1,5 @@
 use mathlib.Core.Path.{◌≡◌, refl, sym, ap, ◌∙◌}
-use Prim.Native.Nat.{◌≤◌, ◌-◌, ◌/◌}
+use Prim.Native.Nat.{◌≤◌, ◌/◌}
 use native.Mathlib.Omega.{arith}
 use lib.ListN.{length, length-set}
 use borrow.Author.Rules.{rules}
@@ -22,7 +22,7 @@ pub seen-requires : goal.seen-requires
 seen-requires c = (slot_sound_at _ _ c.row_at.ensures ∙ sound_at _ c.requires.0 c.loop-s-test.true, c.requires.3)
 
 pub loop-s-preserved : goal.loop-s-preserved
-loop-s-preserved c = 
+loop-s-preserved c =
     let test = seen_at c.args.lines.now (area_by c.args.k) in
     elim c.if-seen.branch [
       | then-seen w ↦ (
@@ -39,6 +39,6 @@ loop-s-preserved c =
 
 pub returns : goal.returns
 unfolding slots_in slots_of
-returns c = 
+returns c =
     let all : c.loop-s.s ≡ length c.args.lines.now / 8 = omega arith in let room : length c.args.lines.now / 8 ≤ length c.args.to.now = omega arith in
     laid_all _ _ _ _ _ c.loop-s.invariant.2 _ all room
