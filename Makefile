@@ -13,7 +13,7 @@
 # make bench-maps   writes the made maps of bench/maps anew
 # make stack     how much stack each call needs
 # make install   header, library, pkg-config file, tool and man page; DESTDIR=.. PREFIX=..
-# make clean     removes build/ (what is proved stays in target/)
+# make clean     removes build/ (the library stays in target/, what is proved in crates/*/out)
 #
 # LIB=FILE links another library with the same calls, as for trials.
 
@@ -37,10 +37,12 @@ EXAMPLES = $(wildcard examples/*.map)
 
 all: build/boundary-map
 
-# The library is made by the prover; whatever it is proved from makes it anew.
-target/staticlib/libhost.a: crates.txt $(shell find crates -name '*.rt' -o -name '*.antt')
-	rt staticlib host
-	@touch $@
+# The library is made by the prover, of the exports in crates/host_c; whatever it is proved from makes it anew. What the prover keeps
+# in its folders out/ has copies of sources, which are no sources.
+target/staticlib/libhost.a: crates.txt $(shell find crates -name out -prune -o \( -name '*.rt' -o -name '*.antt' \) -print)
+	cd crates/host_c && rt lib
+	@mkdir -p $(@D)
+	cp crates/host_c/out/libhost_c.a $@
 
 build/boundary-map: $(TOOL) $(HEADERS) $(LIB)
 	@mkdir -p build

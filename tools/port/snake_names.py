@@ -41,6 +41,11 @@ def law_files():
     return sorted(glob.glob("crates/*/specs/*.antt") + glob.glob("crates/*/proofs/*.antt"))
 
 
+def all_laws():
+    # out/ has copies of sources, which the prover keeps
+    return [f for f in glob.glob("crates/**/*.antt", recursive=True) if "/out/" not in f]
+
+
 def is_old(name):
     if not name[0].islower() and name[0] not in "*+≤<" :
         return False
@@ -92,7 +97,7 @@ def main():
     names = {n for n in everything if is_old(n)}
     # names of the library stay, also where a local name is spelled like one
     imported = {"not-nil"}
-    for f in glob.glob("crates/**/*.antt", recursive=True):
+    for f in all_laws():
         for line in open(f, encoding="utf-8"):
             m = re.match(r"\s*(?:pub )?use (\S+?)\.\{(.*)\}", line)
             if m and (not m[1].startswith("Rattle.") or re.match(r"Rattle\.(std|core|io|libc)", m[1])):
@@ -114,7 +119,7 @@ def main():
                 print("of the library:", s, sorted(ns))
         print(len(table), "names; kept, as the library's:", sorted(names & imported))
         return
-    for f in glob.glob("crates/**/*.antt", recursive=True) + glob.glob("crates/*/src/*.rt") + glob.glob("crates/*/must-fail/*.edit") + glob.glob("*.md") + glob.glob("docs/**/*.md", recursive=True):
+    for f in all_laws() + glob.glob("crates/*/src/*.rt") + glob.glob("crates/*/must-fail/*.edit") + glob.glob("*.md") + glob.glob("docs/**/*.md", recursive=True):
         if os.path.basename(f) != "PORT.md":
             turn(f, table)
 
