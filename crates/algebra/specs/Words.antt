@@ -1,14 +1,9 @@
--- The few words of choice, lists and signs that the definitions of the map use. Assumes nothing.
+-- The few words of lists and signs that the definitions of the map use. Assumes nothing.
 use Rattle.std.specs.Prelude.{Bool, true, false, ℕ, zero, suc, ◌-◌, ◌<◌, eqb, ℤ, pos, negsuc, length, replicate}
 use mathlib.Core.List.{List, [], ◌∷◌, ◌++◌, Memᴰ}
 use Rattle.std.proofs.lemmas.List.Edits.{sets}
 
 module _ {ℓ} {A : Type ℓ} where
-  infixr 5 if◌then◌else◌
-  abbrev pub if◌then◌else◌ : Bool → A → A → A
-  if true then a else b = a
-  if false then a else b = b
-
   -- the elements that pass the test, in their order
   unfoldable pub those : (A → Bool) → List A → List A
   those p [] = []

@@ -1,9 +1,9 @@
 -- For callers: a walk begins at the leaf that holds the point, each leaf adds to what is seen, the next block begins where that ends, and the
 -- last ends at the map's own side.
-use Rattle.std.specs.Prelude.{◌≡◌, ◌⊎◌, Bool, true, List, [], ℕ, suc, ◌+◌, ◌≤◌, ltb, get_or}
+use Rattle.std.specs.Prelude.{◌≡◌, ◌⊎◌, Bool, true, List, [], ℕ, suc, ◌+◌, ◌≤◌, ltb, get_or, if◌then◌else◌}
 use Rattle.std.proofs.Common.{sym, ap, ◌∙◌, subst, inl, inr, arith, le-leb}
 use Rattle.std.proofs.Math.Bool.{false}
-use Rattle.algebra.specs.Words.{those, every, if◌then◌else◌}
+use Rattle.algebra.specs.Words.{those, every}
 use Rattle.algebra.specs.Tests.{both←}
 use Rattle.definitions.specs.declared.Point.{Point}
 use Rattle.definitions.specs.Shape.{Block, inside, on, whole_map}

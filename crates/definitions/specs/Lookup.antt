@@ -1,7 +1,7 @@
 -- What locate and show leaf answer.
-use Rattle.std.specs.Prelude.{Bool, true, false, not, ◌&&◌, ◌||◌, List, [], ◌∷◌, ℕ, ◌+◌, ◌*◌, ◌-◌, ◌/◌, length, take, drop, leb, ltb, eqb, ℤ, pos, ◌*ℤ◌, ◌-ℤ◌}
+use Rattle.std.specs.Prelude.{Bool, true, false, not, ◌&&◌, ◌||◌, List, [], ◌∷◌, ℕ, ◌+◌, ◌*◌, ◌-◌, ◌/◌, length, take, drop, leb, ltb, eqb, ℤ, pos, ◌*ℤ◌, ◌-ℤ◌, if◌then◌else◌}
 use Rattle.std.proofs.Math.IntN.{sub_ℕ}
-use Rattle.algebra.specs.Words.{those, if◌then◌else◌, is_positive, is_negative}
+use Rattle.algebra.specs.Words.{those, is_positive, is_negative}
 use Rattle.definitions.specs.declared.Answer.{Answer}
 use Rattle.definitions.specs.declared.Answer.TheVariants.{Done, Lengths, Damaged, OffGrid}
 use Rattle.definitions.specs.declared.Point.{Point}

@@ -1,7 +1,7 @@
 -- Two scales; points, lines, rectangles and blocks in half-steps; the turn; when a line meets a rectangle, and when two lines conflict.
-use Rattle.std.specs.Prelude.{Bool, not, ◌&&◌, ◌||◌, ℕ, ◌+◌, ◌*◌, ◌/◌, min, max, leb, eqb, ℤ, ◌*ℤ◌, ◌-ℤ◌}
+use Rattle.std.specs.Prelude.{Bool, not, ◌&&◌, ◌||◌, ℕ, ◌+◌, ◌*◌, ◌/◌, min, max, leb, eqb, ℤ, ◌*ℤ◌, ◌-ℤ◌, if◌then◌else◌}
 use Rattle.std.proofs.Math.IntN.{sub_ℕ}
-use Rattle.algebra.specs.Words.{is_positive, is_negative, is_zero, if◌then◌else◌}
+use Rattle.algebra.specs.Words.{is_positive, is_negative, is_zero}
 use Rattle.definitions.specs.declared.Grid.{Grid}
 use Rattle.definitions.specs.declared.Half.{Half}
 use Rattle.definitions.specs.declared.Point.{Point}

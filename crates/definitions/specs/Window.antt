@@ -1,6 +1,6 @@
 -- What window answers: the slots of the live lines that meet a closed rectangle of grid numbers.
-use Rattle.std.specs.Prelude.{Bool, not, ◌&&◌, List, ◌++◌, ℕ, length, drop, leb, ltb}
-use Rattle.algebra.specs.Words.{those, if◌then◌else◌}
+use Rattle.std.specs.Prelude.{Bool, not, ◌&&◌, List, ◌++◌, ℕ, length, drop, leb, ltb, if◌then◌else◌}
+use Rattle.algebra.specs.Words.{those}
 use Rattle.definitions.specs.declared.Answer.{Answer}
 use Rattle.definitions.specs.declared.Answer.TheVariants.{Done, Lengths, Damaged, BadWindow, ListShort}
 use Rattle.definitions.specs.declared.Window.{Window}

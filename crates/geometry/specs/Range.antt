@@ -1,9 +1,8 @@
 -- Where line ends and corners lie, in half-steps, and how far apart they are: what a turn is small by.
-use Rattle.std.specs.Prelude.{◌≡◌, Bool, true, false, ℕ, ◌≤◌, ltb, nat_abs}
+use Rattle.std.specs.Prelude.{◌≡◌, Bool, true, false, ℕ, ◌≤◌, ltb, nat_abs, if◌then◌else◌}
 use Rattle.std.proofs.Common.{arith}
 use Rattle.std.proofs.Math.IntN.{sub_ℕ}
 use Rattle.algebra.specs.Size.{abs_subℕ}
-use Rattle.algebra.specs.Words.{if◌then◌else◌}
 use Rattle.definitions.specs.declared.Point.{Point}
 use Rattle.definitions.specs.Lookup.{west_end, east_end}
 use Rattle.definitions.specs.Shape.{Line, grid_point}

@@ -1,7 +1,6 @@
 -- A cascade of tests answers by the first that applies: the laws that all calls share.
-use Rattle.std.specs.Prelude.{◌≡◌, refl, ◌↔◌, Bool, true, false, List, [], ◌∷◌, ℕ, zero, suc, ◌<◌, eqb}
+use Rattle.std.specs.Prelude.{◌≡◌, refl, ◌↔◌, Bool, true, false, List, [], ◌∷◌, ℕ, zero, suc, ◌<◌, eqb, if◌then◌else◌}
 use Rattle.std.proofs.Common.{sym, ◌∙◌, ap, subst, arith, eqb-true}
-use Rattle.algebra.specs.Words.{if◌then◌else◌}
 use Rattle.definitions.specs.declared.Answer.{Answer}
 use Rattle.definitions.specs.declared.Answer.TheVariants.{Done}
 use Rattle.definitions.specs.Calls.{refusal_of, detail_of}

@@ -3,7 +3,7 @@ use Rattle.definitions.specs.declared.Answer.{Answer}
 use Rattle.definitions.specs.declared.Given.{Given}
 use Rattle.algebra.specs.Lists.{in_those, of_those, in_up_from, to_up_from}
 use Rattle.algebra.specs.Tests.{no_path, and_l, and_r}
-use Rattle.algebra.specs.Words.{those, up_from, if◌then◌else◌}
+use Rattle.algebra.specs.Words.{those, up_from}
 use Rattle.definitions.specs.Calls.{with_slot, Reply, refusal_of, detail_of, cleared, rebuilt, placed, freed, free_slots, known}
 use Rattle.definitions.specs.History.{Call, insert, delete, locate, show, window, reply_to, after_all}
 use Rattle.definitions.specs.Tables.{entry, Tables, generation, is_live, slots_of, live_slots}
@@ -11,7 +11,7 @@ use Rattle.definitions.specs.Tree.{Rule}
 use Rattle.meaning.specs.Slots.{put, bare, other_slot, same_or_not, zero_at, zero_dead, gift_lives, as_long, others_live, others_gen, put_at, bare_at, bare_dead, as_long', rest_live, rest_gen}
 use Rattle.history.specs.Demand.{Held, Heard, heard, held_at, live_held}
 use Rattle.history.proofs.Ledger.{Inserted, Free, free_first, insert_is, Deleted, delete_is, known_there, Inserted.refused as i_refused, Inserted.taken as i_taken, Deleted.refused as d_refused, Deleted.removed as d_removed}
-use Rattle.std.specs.Prelude.{◌≡◌, ◌⊎◌, ◌↔◌, true, false, ◌&&◌, ℕ, ◌+◌, ◌*◌, ◌/◌, ◌%◌, ◌≤◌, ◌<◌, ltb, eqb, length, replicate}
+use Rattle.std.specs.Prelude.{◌≡◌, ◌⊎◌, ◌↔◌, true, false, ◌&&◌, ℕ, ◌+◌, ◌*◌, ◌/◌, ◌%◌, ◌≤◌, ◌<◌, ltb, eqb, length, replicate, if◌then◌else◌}
 use Rattle.std.proofs.Math.Path.{refl, ap}
 use Rattle.std.proofs.Common.{sym, ◌∙◌, inl, inr, arith, eqb-true, ne_eqb}
 use Rattle.std.proofs.Math.Bool.{Bool, not}

@@ -3,7 +3,7 @@ use Rattle.definitions.specs.declared.Answer.{Answer}
 use Rattle.definitions.specs.declared.Given.{Given}
 use Rattle.algebra.specs.Lists.{in_those, of_those}
 use Rattle.algebra.specs.Tests.{no_path}
-use Rattle.algebra.specs.Words.{those, if◌then◌else◌}
+use Rattle.algebra.specs.Words.{those}
 use Rattle.definitions.specs.Calls.{refusal_of, detail_of, cleared}
 use Rattle.definitions.specs.History.{Call, insert, delete, locate, show, window, after_all}
 use Rattle.definitions.specs.Tables.{Tables}
@@ -11,7 +11,7 @@ use Rattle.definitions.specs.Tree.{Rule}
 use Rattle.history.specs.Demand.{Held, Heard, heard, live_held, Gave, Took, NeverTook, Stands, now, after}
 use Rattle.history.proofs.Held.{held_after, held_by, live_exact}
 use Rattle.std.proofs.Common.{subst, sym, ◌∙◌, ap, inl, inr, arith, eqb-true, eq-eqb, ne_eqb}
-use Rattle.std.specs.Prelude.{◌≡◌, refl, ◌⊎◌, ◌↔◌, Bool, true, false, not, ℕ, eqb}
+use Rattle.std.specs.Prelude.{◌≡◌, refl, ◌⊎◌, ◌↔◌, Bool, true, false, not, ℕ, eqb, if◌then◌else◌}
 use mathlib.Core.List.Memᴰ
 use mathlib.Core.List.{List, [], ◌∷◌, Memᴰ}
 use Rattle.std.proofs.lemmas.Bool.{eqb-false, not-true}

@@ -1,7 +1,6 @@
 -- Demand 3 in the paper's words: what the calls and their answers say, what the tables show, and the demand as one record.
-use Rattle.std.specs.Prelude.{◌≡◌, ◌↔◌, true, ℕ, ◌+◌, ◌*◌, eqb}
+use Rattle.std.specs.Prelude.{◌≡◌, ◌↔◌, true, ℕ, ◌+◌, ◌*◌, eqb, if◌then◌else◌}
 use mathlib.Core.List.{List, [], ◌∷◌, ◌++◌, map, Memᴰ}
-use Rattle.algebra.specs.Words.{if◌then◌else◌}
 use Rattle.definitions.specs.declared.Answer.{Answer}
 use Rattle.definitions.specs.declared.Answer.TheVariants.{Done, UnknownHandle}
 use Rattle.definitions.specs.declared.Given.{Given}

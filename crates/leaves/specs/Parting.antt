@@ -1,6 +1,5 @@
 -- The point that a fan is parted by.
-use Rattle.std.specs.Prelude.{List, [], ◌∷◌, ℕ, ◌+◌, ◌/◌, ◌%◌, eqb, length, get_or}
-use Rattle.algebra.specs.Words.{if◌then◌else◌}
+use Rattle.std.specs.Prelude.{List, [], ◌∷◌, ℕ, ◌+◌, ◌/◌, ◌%◌, eqb, length, get_or, if◌then◌else◌}
 use Rattle.definitions.specs.declared.Point.{Point}
 use Rattle.definitions.specs.Shape.{Line, same_point}
 use Rattle.definitions.specs.Tables.{line_at}

@@ -1,4 +1,5 @@
 -- The laws of the answers to pairs of grid numbers, one after another.
+use Rattle.std.specs.Prelude.{if◌then◌else◌}
 use mathlib.Core.Path.{◌≡◌, sym, ap, ap₂, ◌∙◌}
 use mathlib.Core.Bool.{Bool, true, ◌&&◌}
 use mathlib.Core.List.{List, ◌∷◌, ◌++◌, append-nil}
@@ -9,7 +10,6 @@ use lib.Dec.{leb}
 use lib.ListN.{length, take, drop, get_or, set, drop_of_length-le}
 use lib.Seq.{drop-cons, take-suc-set, take_all, append_snoc}
 use borrow.Author.Tests.{leb-true}
-use Rattle.algebra.specs.Words.{if◌then◌else◌}
 use Rattle.algebra.specs.Tests.{both→}
 use Rattle.definitions.specs.Shape.{grid_point}
 use Rattle.definitions.specs.Lookup.{answer_at, answer_to, answers_to}

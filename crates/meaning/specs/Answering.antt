@@ -1,5 +1,5 @@
 -- The computed answer is the one that the rule over heights allows, and the only one.
-use Rattle.std.specs.Prelude.{◌≡◌, ◌↔◌, ◌⊎◌, Bool, not, ◌&&◌, ◌||◌, ℕ, zero, suc, ◌+◌, ◌*◌, ◌/◌, ◌≤◌, ◌<◌, length, eqb}
+use Rattle.std.specs.Prelude.{◌≡◌, ◌↔◌, ◌⊎◌, Bool, not, ◌&&◌, ◌||◌, ℕ, zero, suc, ◌+◌, ◌*◌, ◌/◌, ◌≤◌, ◌<◌, length, eqb, if◌then◌else◌}
 use Rattle.std.proofs.Math.Path.{refl, ap, subst}
 use Rattle.std.proofs.Common.{sym, ◌∙◌, inl, inr, arith, le-leb, lt-ltb, le-ltb, eqb-true, eq-eqb}
 use Rattle.std.proofs.Math.Bool.{true, false}
@@ -10,7 +10,7 @@ use Rattle.definitions.specs.declared.Point.{Point}
 use Rattle.algebra.specs.Lists.{those_yes, those_no, in_those, of_those, every→, in_up_from, to_up_from}
 use Rattle.algebra.specs.Signs.{equal_of_zero}
 use Rattle.algebra.specs.Tests.{no_path, and_b, or_cases}
-use Rattle.algebra.specs.Words.{those, every, up_from, if◌then◌else◌}
+use Rattle.algebra.specs.Words.{those, every, up_from}
 use Rattle.definitions.specs.Lookup.{below, above, run, higher, lower, foremost, upper_label, lower_label, Answering, on_line, from_below, from_above, no_line, answering, answer_of, answer_at, answer_to}
 use Rattle.definitions.specs.Meaning.{spot_of, CountsBelow, CountsAbove, NoneHigher, NoneLower, Live, Through, UpperLabel, LowerLabel, Tells, slot_of, upper_of, lower_of, none_of, Answers, upon, under, over, outside, AnswersTo, off_grid, within}
 use Rattle.definitions.specs.Shape.{Line, grid_point, conflict, on}

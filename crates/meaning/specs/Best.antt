@@ -1,5 +1,5 @@
 -- The best candidate is the same in whatever order they are scanned, also by turns.
-use Rattle.std.specs.Prelude.{◌≡◌, ◌⊎◌, Bool, ◌&&◌, ◌||◌, ℕ, ◌+◌, ◌*◌, ◌≤◌, ◌<◌, ltb, eqb}
+use Rattle.std.specs.Prelude.{◌≡◌, ◌⊎◌, Bool, ◌&&◌, ◌||◌, ℕ, ◌+◌, ◌*◌, ◌≤◌, ◌<◌, ltb, eqb, if◌then◌else◌}
 use Rattle.std.proofs.Math.Path.{refl, ap}
 use Rattle.std.proofs.Common.{sym, ◌∙◌, subst, arith, le-leb, le-ltb, eqb-true}
 use Rattle.std.proofs.Math.Logic.{inl, inr}
@@ -12,7 +12,7 @@ use Rattle.meaning.specs.declared.Found.TheVariants.{Nothing, At}
 use Rattle.definitions.specs.declared.Point.{Point}
 use Rattle.algebra.specs.Signs.{positive_is}
 use Rattle.algebra.specs.Tests.{no_path}
-use Rattle.algebra.specs.Words.{if◌then◌else◌, is_zero}
+use Rattle.algebra.specs.Words.{is_zero}
 use Rattle.definitions.specs.Lookup.{west_end, east_end, run, higher}
 use Rattle.definitions.specs.Meaning.{Live}
 use Rattle.definitions.specs.Shape.{Line, turn}

@@ -1,5 +1,5 @@
 -- Heights as fractions: the point of a line over x, and which of two is higher there.
-use Rattle.std.specs.Prelude.{◌≡◌, refl, ◌↔◌, ◌⊎◌, Bool, true, false, ◌&&◌, ℕ, ◌+◌, ◌*◌, ◌-◌, ◌≤◌, ◌<◌, min, max, leb, ltb}
+use Rattle.std.specs.Prelude.{◌≡◌, refl, ◌↔◌, ◌⊎◌, Bool, true, false, ◌&&◌, ℕ, ◌+◌, ◌*◌, ◌-◌, ◌≤◌, ◌<◌, min, max, leb, ltb, if◌then◌else◌}
 use Rattle.std.proofs.Common.{sym, ◌∙◌, ap, subst, subst₂, mul-lt-mul_of_pos_right, mul-pos, le_of_mul-le-mul_right, lt_of_mul-lt-mul_right}
 use Rattle.std.proofs.Math.Logic.{inl, inr}
 use native.Mathlib.Omega.{arith}
@@ -7,7 +7,7 @@ use borrow.Author.Tests.{leb-true, le-leb, lt-ltb, ltb-true, ltb-false}
 use Rattle.definitions.specs.declared.Point.{Point}
 use Rattle.algebra.specs.Signs.{positive_is, negative_is, equal_of_zero, zero_of_equal}
 use Rattle.algebra.specs.Tests.{and_l, and_r, and_b}
-use Rattle.algebra.specs.Words.{if◌then◌else◌, is_positive, is_negative}
+use Rattle.algebra.specs.Words.{is_positive, is_negative}
 use Rattle.definitions.specs.Lookup.{west_end, east_end, below, above, run, height_over}
 use Rattle.definitions.specs.Meaning.{Spot, OnLine, Steeper, PointOver, CountsBelow, CountsAbove, NoneHigher}
 use Rattle.definitions.specs.Shape.{Line, min_x, max_x, turn}

@@ -1,5 +1,5 @@
 -- The order of two lines over an x, by height and then by slope; and by turns of ends alone.
-use Rattle.std.specs.Prelude.{◌≡◌, refl, ◌⊎◌, Bool, true, false, ◌&&◌, ◌||◌, ltb, eqb, pos, ◌*ℤ◌, ◌-ℤ◌}
+use Rattle.std.specs.Prelude.{◌≡◌, refl, ◌⊎◌, Bool, true, false, ◌&&◌, ◌||◌, ltb, eqb, pos, ◌*ℤ◌, ◌-ℤ◌, if◌then◌else◌}
 use Rattle.std.proofs.Math.Path.{sym, ap, subst₂}
 use Rattle.std.proofs.Common.{◌∙◌, subst, inl, inr, mul-le-mul_right, mul-lt-mul_of_pos_right, le_of_mul-le-mul_right, lt_of_mul-lt-mul_right, le-leb, lt-ltb, le-ltb, ltb-true, eqb-true, eq-eqb, ne_eqb}
 use Prim.Native.Nat.{ℕ, zero, suc, ◌+◌, ◌*◌, ◌-◌, ◌≤◌, ◌<◌}
@@ -10,7 +10,7 @@ use Rattle.std.proofs.lemmas.Bool.{lt-leb}
 use Rattle.definitions.specs.declared.Point.{Point}
 use Rattle.algebra.specs.Signs.{Is, pos_is, sub_is, neg_is, add_is, mul_is, shift_is, positive_is, negative_is, zero_is}
 use Rattle.algebra.specs.Tests.{no_path, and_l, and_r, and_b, or_cases}
-use Rattle.algebra.specs.Words.{if◌then◌else◌, is_positive, is_negative, is_zero}
+use Rattle.algebra.specs.Words.{is_positive, is_negative, is_zero}
 use Rattle.definitions.specs.Lookup.{west_end, east_end, run, height_over, rise, higher}
 use Rattle.definitions.specs.Meaning.{Conflicts, Steeper}
 use Rattle.definitions.specs.Shape.{Line, turn, same_point, conflict}

@@ -1,10 +1,9 @@
 -- The kind that `kind_of` tells of lines that conflict is the one that holds, and no two hold at once.
-use Rattle.std.specs.Prelude.{◌≡◌, ◌↔◌, ◌⊎◌, Bool, ◌&&◌}
+use Rattle.std.specs.Prelude.{◌≡◌, ◌↔◌, ◌⊎◌, Bool, ◌&&◌, if◌then◌else◌}
 use Rattle.std.proofs.Math.Path.{refl}
 use Rattle.std.proofs.Common.{sym, ◌∙◌, ap, subst, inl, inr, ⊎_elim, arith}
 use Rattle.std.proofs.Math.Bool.{true, false}
 use Rattle.algebra.specs.Tests.{no_path, both→, both←}
-use Rattle.algebra.specs.Words.{if◌then◌else◌}
 use Rattle.definitions.specs.declared.Point.{Point}
 use Rattle.definitions.specs.declared.Kind.{Kind}
 use Rattle.definitions.specs.declared.Kind.TheVariants.{Crossing, Touching, Overlap, Same}

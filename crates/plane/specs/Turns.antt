@@ -1,7 +1,7 @@
 -- The turn as a difference of two sums of products of ℕ, and the order of two lines by turns of ends alone.
-use Rattle.std.specs.Prelude.{Bool, ◌&&◌, ◌||◌, ℕ, ◌+◌, ◌*◌, leb}
+use Rattle.std.specs.Prelude.{Bool, ◌&&◌, ◌||◌, ℕ, ◌+◌, ◌*◌, leb, if◌then◌else◌}
 use Rattle.std.proofs.Common.{arith}
-use Rattle.algebra.specs.Words.{if◌then◌else◌, is_positive, is_negative, is_zero}
+use Rattle.algebra.specs.Words.{is_positive, is_negative, is_zero}
 use Rattle.algebra.specs.Signs.{Is, sub_is, add_is, neg_is, mul_is, shift_is}
 use Rattle.definitions.specs.declared.Point.{Point}
 use Rattle.definitions.specs.Shape.{Line, turn}

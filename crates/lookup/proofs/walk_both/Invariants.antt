@@ -1,7 +1,7 @@
 -- `lookup::walk_both` meets its contract. The invariant: the way is south, or nothing counts below.
+use Rattle.std.specs.Prelude.{if◌then◌else◌}
 use mathlib.Core.Path.{◌≡◌}
 use lib.ListN.{length}
-use Rattle.algebra.specs.Words.{if◌then◌else◌}
 use Rattle.lookup.specs.Asked.{Turn}
 use Rattle.lookup.proofs.walk_both.Given as goal
 
