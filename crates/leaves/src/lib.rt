@@ -22,6 +22,12 @@ const FEW: usize = 12;
 // Each level has its own array on the stack; what is left whole below the last is tested pair by pair.
 const DEPTH: u16 = 12;
 
+// What the node table has for a divided block.
+const DIVIDED: usize = 65535;
+
+// A leaf of so many lines needs no test.
+const ALONE: usize = 1;
+
 // l conflicts with the line of one of the slots.
 pub fn conflicts_with(lines: &[u16], slots: &[u16], l: Line) -> bool
     requires { Good lines.now slots.now × (same_point l.a l.b ≡ false) × LineEnds (line_of l) }
@@ -102,7 +108,9 @@ pub fn keep(lines: &[u16], slots: &[u16], kept: &mut [u16], v: Point, w: Point, 
     let mut read: usize = 0;
     while read < slots.len() {
         let s = slots[read];
-        if leaves_left(line_at(lines, s), v, w) == side {
+        let left = leaves_left(line_at(lines, s), v, w);
+        let here = left == side;
+        if here {
             kept[n] = s;
             n += 1;
         }
@@ -225,9 +233,9 @@ pub fn conflicts_in_leaves(lines: &[u16], nodes: &[u16], listings: &[u16], used:
     let mut node: usize = 0;
     while node < used {
         let n = wide(nodes[node]);
-        if n != 65535 {
+        if n != DIVIDED {
             let e = at + n;
-            if 1 < n && leaf_conflicts(lines, &listings[at..e]) {
+            if ALONE < n && leaf_conflicts(lines, &listings[at..e]) {
                 return true;
             }
             at = e;
