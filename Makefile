@@ -38,9 +38,9 @@ EXAMPLES = $(wildcard examples/*.map)
 all: build/boundary-map
 
 # The library is made by the prover, of the exports in crates/host_c; whatever it is proved from makes it anew. What the prover keeps
-# in its folders out/ has copies of sources, which are no sources.
+# in its folders out/ has copies of sources, which are no sources. The code is for every x86-64 processor.
 target/staticlib/libhost.a: crates.txt $(shell find crates -name out -prune -o \( -name '*.rt' -o -name '*.antt' \) -print)
-	cd crates/host_c && rt lib
+	cd crates/host_c && rt lib --cpu=x86-64
 	@mkdir -p $(@D)
 	cp crates/host_c/out/libhost_c.a $@
 
