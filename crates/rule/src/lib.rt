@@ -62,12 +62,15 @@ pub fn simple(lines: &[u16], slots: &[u16], k: Block) -> bool
     false
 }
 
-// A block of side 2, which is at level 0, is never divided.
+// The level of a block of side 2.
+const SMALLEST: u16 = 0;
+
+// Such a block is never divided.
 pub fn left_whole(lines: &[u16], slots: &[u16], k: Block, level: u16) -> bool
     requires { Candidates lines.now (block_of k) slots.now }
     ensures { result ≡ left_whole level (simpleOf (map (line_at lines.now) slots.now) (block_of k)) }
 {
-    if level == 0 {
+    if level == SMALLEST {
         return true;
     }
     simple(lines, slots, k)

@@ -104,7 +104,8 @@ fn son_over(p: Point, west: u16, south: u16, side: u16) -> Son
 {
     let east = west + side;
     let north = south + side;
-    if p.x.0 < east {
+    let western = p.x.0 < east;
+    if western {
         if p.y.0 < north {
             return Son {
                 west,

@@ -12,8 +12,7 @@ line_at-requires c =
 
 pub sons_met-m-requires : goal.sons_met-m-requires
 sons_met-m-requires c =
-    let l = c in
-    sons_asked l.requires l.loop-i.invariant c.loop-i-test.true c.line_at.ensures
+    sons_asked c.requires c.loop-i.invariant c.loop-i-test.true c.line_at.ensures
 
 pub bounds-slots-ne : goal.bounds-slots-ne
 bounds-slots-ne c = simp length-set (omega arith)
@@ -26,9 +25,7 @@ bounds-slots-se c = simp length-set (omega arith)
 
 pub overflow_add-se : goal.overflow_add-se
 overflow_add-se c =
-    let g = c.before.before.before.before.before in
-    let l = g in
-    omega (arith, c.one-se.ensures, l.loop-i.invariant, l.requires, l.before.before, l.before, g.loop-i-test.true)
+    omega (arith, c.one-se.ensures, c.loop-i.invariant, c.requires, c.loop-i-test.true)
 
 pub loop-i-preserved : goal.loop-i-preserved
 loop-i-preserved c =

@@ -5,7 +5,6 @@ use Rattle.algebra.specs.Lists.{mem_at}
 use Rattle.geometry.specs.Means.{block_of}
 use Rattle.rule.proofs.Rule.{no_candidate, rest_candidates, both_inside, alone, first_inside, second_inside, many}
 use Rattle.rule.proofs.simple.Goals as goal
-use Rattle.rule.proofs.simple.Goals.{After-inside-second}
 
 pub returns-then-slots-eq0 : goal.returns-then-slots-eq0
 returns-then-slots-eq0 c =
@@ -26,18 +25,15 @@ all_hang_on-requires c = rest_candidates (record { some = c.if-slots-eq0.false; 
 
 pub returns-then-first : goal.returns-then-first
 returns-then-first c =
-    let g = c.before.before.before.before.before in
-    c.all_hang_on.ensures ∙ first_inside (record { some = g.if-slots-eq0.false; candidates = g.requires; is = g.line_at-l.ensures }) (sym g.inside-first.ensures ∙ c.if-first.true) (sym (ap₂ (λ (p q : Bool). p && q) g.inside-first.ensures g.inside-second.ensures) ∙ c.if-first-second.false)
+    c.all_hang_on.ensures ∙ first_inside (record { some = c.if-slots-eq0.false; candidates = c.requires; is = c.line_at-l.ensures }) (sym c.inside-first.ensures ∙ c.if-first.true) (sym (ap₂ (λ (p q : Bool). p && q) c.inside-first.ensures c.inside-second.ensures) ∙ c.if-first-second.false)
 
 pub all_hang_on-requires-then-second : goal.all_hang_on-requires-then-second
 all_hang_on-requires-then-second c = rest_candidates (record { some = c.if-slots-eq0.false; candidates = c.requires; is = c.line_at-l.ensures })
 
 pub returns-then-second : goal.returns-then-second
 returns-then-second c =
-    let g = c.before.before.before.before.before.before in
-    c.all_hang_on-then-second.ensures ∙ second_inside (record { some = g.if-slots-eq0.false; candidates = g.requires; is = g.line_at-l.ensures }) (sym g.inside-first.ensures ∙ c.if-first.false) (sym g.inside-second.ensures ∙ c.if-second.true)
+    c.all_hang_on-then-second.ensures ∙ second_inside (record { some = c.if-slots-eq0.false; candidates = c.requires; is = c.line_at-l.ensures }) (sym c.inside-first.ensures ∙ c.if-first.false) (sym c.inside-second.ensures ∙ c.if-second.true)
 
 pub returns : goal.returns
 returns c =
-    let g = c.before.before.before.before in
-    many (record { some = g.if-slots-eq0.false; candidates = g.requires; is = g.line_at-l.ensures }) (sym g.inside-first.ensures ∙ c.if-first.false) (sym g.inside-second.ensures ∙ c.if-second.false) c.if-slots-eq1.false
+    many (record { some = c.if-slots-eq0.false; candidates = c.requires; is = c.line_at-l.ensures }) (sym c.inside-first.ensures ∙ c.if-first.false) (sym c.inside-second.ensures ∙ c.if-second.false) c.if-slots-eq1.false
