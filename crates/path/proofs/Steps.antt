@@ -1,5 +1,5 @@
 -- The laws of the path: to go into a block that holds p keeps it.
-use mathlib.Core.Path.{◌≡◌, refl, sym, ap}
+use mathlib.Core.Path.{◌≡◌, refl, sym, ap, ◌∙◌}
 use mathlib.Core.Bool.{Bool, true, false, not, beq}
 use mathlib.Core.List.{List}
 use Prim.Native.Nat.{ℕ, ◌+◌, ◌*◌, ◌≤◌, ◌<◌}
@@ -23,6 +23,10 @@ module _ {lines nodes listings index path path' : List ℕ} {p : Point} where
   path_kept top same = top
   path_kept (step {i = i} e q r l t g u) same =
       step (entries_kept e same) q r l t g (path_kept u (λ n h. same n (omega arith)))
+
+-- the block that a turn goes into is divided: the node that was read is its own
+pub divided : (nodes : List ℕ) {read own : ℕ} → read ≡ own → get_or nodes read 0 ≡ 65535 → get_or nodes own 0 ≡ 65535
+divided nodes e mark = ap (λ (n : ℕ). get_or nodes n 0) (sym e) ∙ mark
 
 -- the whole map holds p
 pub held_top : {lines nodes listings index path : List ℕ} {p : Point} {r : Spot} → Charted lines nodes listings index → End p → r.node ≡ 0 → block_of r.block ≡ whole_map → r.by ≡ 0 → Held lines nodes listings index path p r

@@ -31,6 +31,7 @@ scan_leaf-requires c = let h = c.loop-left.invariant.0.leaf in record { block = 
 pub returns-in-On : goal.returns-in-On
 returns-in-On c = let h = c.loop-left.invariant.0.leaf in found_on c.walked.ensures.0 (c.walked.ensures.1 ∙ c.answer_on.ensures) (leaf_on h c.scan_leaf.ensures c.in-On.is)
 
+-- what the leaf left to go on with is `leaf_down ..`
 pub settled-requires : goal.settled-requires
 settled-requires c = let h = c.loop-left.invariant.0.leaf in record { on_way = (leaf_down c.loop-left.invariant.0.leaf c.scan_leaf.ensures c.in-Best.is).on_way; point = h.point; north_in = h.placed.north_in }
 
@@ -61,6 +62,7 @@ overflow_sub-at c = let z = c.if-at-eq0.false in search rules
 pub take_up-at-requires : goal.take_up-at-requires
 take_up-at-requires c = omega (arith, c.loop-left.invariant.0.column.few, c.loop-left.invariant.1, c.requires.room.later_room)
 
+-- the next block: beside the path, or put by
 pub go_down-at-requires : goal.go_down-at-requires
 go_down-at-requires c =
     let h = c.loop-left.invariant.0 in

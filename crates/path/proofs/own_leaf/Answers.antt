@@ -1,9 +1,9 @@
-use mathlib.Core.Path.{refl, sym, ap, ◌∙◌}
+use mathlib.Core.Path.{refl, ap, ◌∙◌}
 use Prim.Native.Nat.{ℕ}
 use native.Mathlib.Omega.{arith}
 use lib.ListN.{get_or}
 use Rattle.path.specs.Placed.{placed_there}
-use Rattle.path.proofs.Steps.{held_top, enters, held_in, in_less}
+use Rattle.path.proofs.Steps.{divided, held_top, enters, held_in, in_less}
 use Rattle.path.proofs.own_leaf.Goals as goal
 
 pub loop-node-init : goal.loop-node-init
@@ -16,13 +16,13 @@ pub bounds-nodes-node : goal.bounds-nodes-node
 bounds-nodes-node c = omega (arith, placed_there (c.loop-node.invariant.0.held c.requires.chart).placed, c.loop-node.invariant.2)
 
 pub go_in-at-requires : goal.go_in-at-requires
-go_in-at-requires c = enters (c.loop-node.invariant.0.held c.requires.chart) (ap (λ (n : ℕ). get_or c.args.nodes.now n 0) (sym c.loop-node.invariant.2) ∙ c.loop-node-test.true) (c.loop-node.invariant.1 ∙ c.requires.room)
+go_in-at-requires c = enters (c.loop-node.invariant.0.held c.requires.chart) (divided c.args.nodes.now c.loop-node.invariant.2 c.loop-node-test.true) (c.loop-node.invariant.1 ∙ c.requires.room)
 
 pub loop-node-smaller : goal.loop-node-smaller
-loop-node-smaller c = in_less (c.loop-node.invariant.0.held c.requires.chart) (ap (λ (n : ℕ). get_or c.args.nodes.now n 0) (sym c.loop-node.invariant.2) ∙ c.loop-node-test.true) c.go_in-at.ensures
+loop-node-smaller c = in_less (c.loop-node.invariant.0.held c.requires.chart) (divided c.args.nodes.now c.loop-node.invariant.2 c.loop-node-test.true) c.go_in-at.ensures
 
 pub loop-node-preserved : goal.loop-node-preserved
-loop-node-preserved c = let l = c.loop-node.invariant in (record { held = λ h. held_in (l.0.held h) (ap (λ (n : ℕ). get_or c.args.nodes.now n 0) (sym c.loop-node.invariant.2) ∙ c.loop-node-test.true) c.go_in-at.ensures }, c.go_in-at.auto.path ∙ l.1, refl)
+loop-node-preserved c = let l = c.loop-node.invariant in (record { held = λ h. held_in (l.0.held h) (divided c.args.nodes.now c.loop-node.invariant.2 c.loop-node-test.true) c.go_in-at.ensures }, c.go_in-at.auto.path ∙ l.1, refl)
 
 pub returns : goal.returns
 returns c = let l = c.loop-node.invariant in record { holding = l.0; whole = λ e. c.loop-node-test.false (ap (λ (n : ℕ). get_or c.args.nodes.now n 0) l.2 ∙ e) }

@@ -61,6 +61,8 @@ build_block-returns t c =
 pub build_sons-spread-s-requires : goal.build_sons-spread-s-requires
 build_sons-spread-s-requires t c = spreadable c.requires
 
+-- Of the sons: what stands after the spread is `o`, after each son it has that son's name. Each leads on to the next.
+
 pub build_sons-build_block-requires : goal.build_sons-build_block-requires
 build_sons-build_block-requires t c =
     let o = no_son c.requires c.spread-s.ensures c.args.nodes.now c.args.listings.now c.spread-s.auto.slots c.requires.node c.requires.listing in
