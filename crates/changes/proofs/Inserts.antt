@@ -1,4 +1,5 @@
 -- The steps of insert on a sound map, over plain lists.
+use Rattle.std.specs.Prelude.{Ok, Err}
 use mathlib.Core.Path.{◌≡◌, refl, sym, ap, ◌∙◌, subst}
 use mathlib.Core.Bool.{Bool, true, false}
 use mathlib.Core.List.{List, Memᴰ}
@@ -6,7 +7,7 @@ use Prim.Native.Nat.{ℕ, ◌+◌, ◌*◌, ◌≤◌, ◌<◌}
 use native.Mathlib.Omega.{arith}
 use Rattle.algebra.specs.Words.{every}
 use Rattle.algebra.specs.Tests.{both→}
-use Rattle.definitions.specs.declared.Answer.TheVariants.{Done, NoRoom}
+use Rattle.definitions.specs.declared.Refusal.TheVariants.{NoRoom}
 use Rattle.definitions.specs.declared.Given.{Given}
 use Rattle.definitions.specs.Tree.{Rule}
 use Rattle.definitions.specs.Tables.{Tables, slot_sound, slots_of, is_live, generation}
@@ -63,19 +64,19 @@ module _ {rule : Rule} {lines nodes listings : List ℕ} {slot : ℕ} {g : Given
         }
 
     module _ {l n s : List ℕ} where
-      pub taken_in : {b : Bool} → Put rule t (with_slot lines slot (entries_of row')) (tables l n s) b → b ≡ true → {h : ℕ} → h ≡ slot * 65536 + (row.generation + 1) → Replies (Done h) l n s (insert_of rule t g)
+      pub taken_in : {b : Bool} → Put rule t (with_slot lines slot (entries_of row')) (tables l n s) b → b ≡ true → {h : ℕ} → h ≡ slot * 65536 + (row.generation + 1) → Replies (Ok h) l n s (insert_of rule t g)
       taken_in {b} p q {h} k =
           let u : Put rule t (with_slot lines slot (entries_of row')) (tables l n s) true = subst (λ (x : Bool). Put rule t (with_slot lines slot (entries_of row')) (tables l n s) x) q p in
           let m = first_at _ w.free in
-          (λ i. record { answer = Done (number i); after = (u.1 ∙ ap (rebuilt rule t) is_placed) i })
+          (λ i. record { answer = Ok (number i); after = (u.1 ∙ ap (rebuilt rule t) is_placed) i })
           ∙ sym (insert_0 rule t g w.passed.fit w.passed.ok w.grid w.long w.clear slot m.0 m.1 (subst (λ (z : List ℕ). room_for rule t z ≡ true) is_placed u.0))
         where
           number : h ≡ slot * 65536 + (generation lines slot + 1)
           number = k ∙ ap (λ (r : Row). slot * 65536 + (r.generation + 1)) e
 
-      pub left_out : {b : Bool} → Put rule t (with_slot lines slot (entries_of row')) (tables l n s) b → b ≡ false → Replies NoRoom l n s (insert_of rule t g)
+      pub left_out : {b : Bool} → Put rule t (with_slot lines slot (entries_of row')) (tables l n s) b → b ≡ false → Replies (Err NoRoom) l n s (insert_of rule t g)
       left_out {b} p q =
           let u : Put rule t (with_slot lines slot (entries_of row')) (tables l n s) false = subst (λ (x : Bool). Put rule t (with_slot lines slot (entries_of row')) (tables l n s) x) q p in
           let m = first_at _ w.free in
-          (λ i. record { answer = NoRoom; after = u.1 i })
+          (λ i. record { answer = (Err NoRoom); after = u.1 i })
           ∙ sym (insert_7 rule t g w.passed.fit w.passed.ok w.grid w.long w.clear slot m.0 m.1 (subst (λ (z : List ℕ). room_for rule t z ≡ false) is_placed u.0))

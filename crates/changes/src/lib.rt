@@ -8,7 +8,7 @@ ghost use Rattle.tables.specs.Rows.{entries_of};
 ghost use Rattle.tables.specs.Lent.{tables, Replies, Passed};
 ghost use Rattle.changes.specs.Changing.{Room, Putting, Put, Placing, Taking};
 
-use definitions::{Answer, Given};
+use definitions::{Answer, Given, Refusal};
 use kinds::conflict_detail;
 use tables::{
     Row, Slot, all_on_grid, clear, copy, emptied, first_conflict, free_slot, handle_of, no_length,
@@ -81,9 +81,9 @@ fn place(
     let row = row_at(lines, slot);
     let generation = row.generation + 1;
     if put_if_room(lines, nodes, listings, slot, row_of(g, generation)) {
-        return Answer::Done(handle_of(slot, generation));
+        return Ok(handle_of(slot, generation));
     }
-    Answer::NoRoom
+    Err(Refusal::NoRoom)
 }
 
 // Insert into a sound map.
@@ -92,16 +92,16 @@ pub fn insert_sound(lines: &mut [u16], nodes: &mut [u16], listings: &mut [u16], 
     ensures { Replies result lines.new nodes.new listings.new (insert_of base_rule (tables lines.old nodes.old listings.old) g) }
 {
     if !all_on_grid(g) {
-        return Answer::OffGrid;
+        return Err(Refusal::OffGrid);
     }
     if no_length(g) {
-        return Answer::NoLength;
+        return Err(Refusal::NoLength);
     }
     if let Slot::At(s) = first_conflict(lines, g) {
-        return Answer::Conflict(conflict_detail(lines, s, g));
+        return Err(Refusal::Conflict(conflict_detail(lines, s, g)));
     }
     let Slot::At(slot) = free_slot(lines) else {
-        return Answer::NoSlot;
+        return Err(Refusal::NoSlot);
     };
     place(lines, nodes, listings, slot, g)
 }

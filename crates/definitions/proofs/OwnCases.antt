@@ -1,9 +1,10 @@
 -- Numbers of our own, beside the paper's: what P1 to P11 leave open, on short tables. Each side computes.
+use Rattle.std.specs.Prelude.{Ok, Err}
 use mathlib.Core.Path.{◌≡◌, refl}
 use mathlib.Core.List.{List, [], ◌∷◌, ◌++◌}
 use Prim.Native.Nat.{ℕ}
 use Rattle.algebra.specs.Words.{those, every, up_from, same_list, padded}
-use Rattle.definitions.specs.declared.Answer.TheVariants.{Done, Lengths, Damaged, OffGrid, NoLength, Conflict, NoSlot, NoRoom, UnknownHandle, BadWindow, ListShort}
+use Rattle.definitions.specs.declared.Refusal.TheVariants.{Lengths, Damaged, OffGrid, NoLength, Conflict, NoSlot, NoRoom, UnknownHandle, BadWindow, ListShort}
 use Rattle.definitions.specs.declared.Kind.TheVariants.{Crossing, Touching, Overlap, Same}
 use Rattle.definitions.specs.Shape.{turn, left_of, right_of, corners, meets_area, meets, inside, same_point, is_end, on, within, parts, conflict, in_line_of, kind_of}
 use Rattle.definitions.specs.Tree.{base_rule, tree_by, ends_of, simple_with, simple, listed, tree, nodes_of, listings_of}
@@ -15,7 +16,7 @@ use Rattle.definitions.proofs.Cases.{zeros, fresh, labelled, line, refusal}
 
 -- what show leaf gives: side, west, south; where its part starts, and the part
 abbrev shows : ℕ → ℕ → ℕ → ℕ → List ℕ → Showing
-shows side west south first part = record { told = record { answer = Done 0; side = side; west = record { 0 = west }; south = record { 0 = south } }; first = first; part = part }
+shows side west south first part = record { told = record { answer = Ok 0; side = side; west = record { 0 = west }; south = record { 0 = south } }; first = first; part = part }
 
 -- three lines from one corner of the map: the leaf at that corner lists all three
 abbrev fan : Tables
@@ -46,9 +47,9 @@ three_ways = after_all base_rule (fresh 3 20 20) (labelled 16383 0 0 0 3 4 ∷ l
 
 pub record OwnCases : Type 0 where
   -- start on tables in any state: all 0, generations too
-  pub start : start_of (record { lines = 1 ∷ 5 ∷ 0 ∷ 0 ∷ 10 ∷ 0 ∷ 7 ∷ 9 ∷ 3 ∷ 65535 ∷ 0 ∷ 0 ∷ 0 ∷ 0 ∷ 0 ∷ 6 ∷ []; nodes = 65535 ∷ 3 ∷ []; listings = 4 ∷ [] }) ≡ reply (Done 0) (record { lines = zeros 16; nodes = 0 ∷ 0 ∷ []; listings = 0 ∷ [] })
+  pub start : start_of (record { lines = 1 ∷ 5 ∷ 0 ∷ 0 ∷ 10 ∷ 0 ∷ 7 ∷ 9 ∷ 3 ∷ 65535 ∷ 0 ∷ 0 ∷ 0 ∷ 0 ∷ 0 ∷ 6 ∷ []; nodes = 65535 ∷ 3 ∷ []; listings = 4 ∷ [] }) ≡ reply (Ok 0) (record { lines = zeros 16; nodes = 0 ∷ 0 ∷ []; listings = 0 ∷ [] })
   -- an upright line on the west side: the sons in the order NW, NE, SW, SE
-  pub upright : reply_to base_rule (fresh 1 6 3) (line 0 0 0 16383) ≡ reply (Done 1) (record { lines = 1 ∷ 1 ∷ 0 ∷ 0 ∷ 0 ∷ 16383 ∷ 0 ∷ 0 ∷ []; nodes = 65535 ∷ 1 ∷ 0 ∷ 1 ∷ 0 ∷ 0 ∷ []; listings = 0 ∷ 0 ∷ 0 ∷ [] })
+  pub upright : reply_to base_rule (fresh 1 6 3) (line 0 0 0 16383) ≡ reply (Ok 1) (record { lines = 1 ∷ 1 ∷ 0 ∷ 0 ∷ 0 ∷ 16383 ∷ 0 ∷ 0 ∷ []; nodes = 65535 ∷ 1 ∷ 0 ∷ 1 ∷ 0 ∷ 0 ∷ []; listings = 0 ∷ 0 ∷ 0 ∷ [] })
   -- the fan: each leaf's count is that of its lines, its slots rise, and 0 comes after the last
   pub fan_nodes : fan.nodes ≡ 65535 ∷ 65535 ∷ 1 ∷ 0 ∷ 1 ∷ 1 ∷ 1 ∷ 3 ∷ 65535 ∷ 1 ∷ 0 ∷ 1 ∷ 1 ∷ 0 ∷ []
   pub fan_listings : fan.listings ≡ 0 ∷ 0 ∷ 1 ∷ 1 ∷ 0 ∷ 1 ∷ 2 ∷ 1 ∷ 2 ∷ 2 ∷ 0 ∷ []
@@ -59,12 +60,12 @@ pub record OwnCases : Type 0 where
   pub leaf_se : show_of base_rule fan 16383 0 ≡ shows 8192 24576 0 9 (2 ∷ [])
   pub leaf_empty : show_of base_rule fan 16383 8191 ≡ shows 8192 24576 8192 8 []
   -- a line put between two live ones, and taken away again: its generation stays
-  pub between : reply_to base_rule (two_sides 4) (labelled 0 0 16383 0 21 22) ≡ reply (Done 65541) three_sides
-  pub emptied : reply_to base_rule three_sides (delete 65541) ≡ reply (Done 0) (two_sides 5)
+  pub between : reply_to base_rule (two_sides 4) (labelled 0 0 16383 0 21 22) ≡ reply (Ok 65541) three_sides
+  pub emptied : reply_to base_rule three_sides (delete 65541) ≡ reply (Ok 0) (two_sides 5)
   -- the upper side of a line drawn westward is its right, of one drawn eastward its left; an upright line is never below; seven points
-  pub seven : locate_of base_rule three_ways (0 ∷ 5000 ∷ 0 ∷ 9000 ∷ 0 ∷ 8192 ∷ 0 ∷ 2000 ∷ 0 ∷ 0 ∷ 16383 ∷ 5000 ∷ 16384 ∷ 0 ∷ []) (9 ∷ 9 ∷ 9 ∷ 9 ∷ 9 ∷ 9 ∷ 9 ∷ []) ≡ record { answer = Done 0; answers = 4 ∷ 5 ∷ 65537 ∷ 65538 ∷ 65536 ∷ 0 ∷ 4294967295 ∷ [] }
+  pub seven : locate_of base_rule three_ways (0 ∷ 5000 ∷ 0 ∷ 9000 ∷ 0 ∷ 8192 ∷ 0 ∷ 2000 ∷ 0 ∷ 0 ∷ 16383 ∷ 5000 ∷ 16384 ∷ 0 ∷ []) (9 ∷ 9 ∷ 9 ∷ 9 ∷ 9 ∷ 9 ∷ 9 ∷ []) ≡ record { answer = Ok 0; answers = 4 ∷ 5 ∷ 65537 ∷ 65538 ∷ 65536 ∷ 0 ∷ 4294967295 ∷ [] }
   -- every refusal by its number and detail: as the paper has them, and of calls
-  pub refusals : number_of Lengths ∷ number_of Damaged ∷ number_of OffGrid ∷ number_of NoLength ∷ number_of (Conflict 1023) ∷ number_of NoSlot ∷ number_of NoRoom ∷ number_of UnknownHandle ∷ number_of BadWindow ∷ number_of ListShort ∷ [] ≡ 4294967296 ∷ 8589934592 ∷ 12884901888 ∷ 17179869184 ∷ 21474837503 ∷ 25769803776 ∷ 30064771072 ∷ 34359738368 ∷ 38654705664 ∷ 42949672960 ∷ []
+  pub refusals : number_of (Err Lengths) ∷ number_of (Err Damaged) ∷ number_of (Err OffGrid) ∷ number_of (Err NoLength) ∷ number_of (Err (Conflict 1023)) ∷ number_of (Err NoSlot) ∷ number_of (Err NoRoom) ∷ number_of (Err UnknownHandle) ∷ number_of (Err BadWindow) ∷ number_of (Err ListShort) ∷ [] ≡ 4294967296 ∷ 8589934592 ∷ 12884901888 ∷ 17179869184 ∷ 21474837503 ∷ 25769803776 ∷ 30064771072 ∷ 34359738368 ∷ 38654705664 ∷ 42949672960 ∷ []
   pub lengths : numbers base_rule (fresh 1 0 0) (line 0 0 1 1 ∷ delete 1 ∷ locate [] [] ∷ show 0 0 ∷ []) ≡ refusal 1 0 ∷ refusal 1 0 ∷ refusal 1 0 ∷ refusal 1 0 ∷ []
   pub start_lengths : number_of (start_of (fresh 1 0 0)).answer ≡ refusal 1 0
   pub lists : numbers base_rule (fresh 1 1 0) (locate (0 ∷ []) [] ∷ locate (0 ∷ 0 ∷ []) [] ∷ locate [] [] ∷ []) ≡ refusal 1 0 ∷ refusal 1 0 ∷ 0 ∷ []

@@ -1,8 +1,8 @@
 -- What start, insert and delete answer, and the tables afterwards.
-use Rattle.std.specs.Prelude.{Bool, not, ◌&&◌, List, [], ◌∷◌, ◌++◌, ℕ, ◌+◌, ◌*◌, ◌/◌, ◌%◌, length, replicate, take, drop, leb, ltb, eqb, if◌then◌else◌}
+use Rattle.std.specs.Prelude.{Bool, not, ◌&&◌, List, [], ◌∷◌, ◌++◌, ℕ, ◌+◌, ◌*◌, ◌/◌, ◌%◌, length, replicate, take, drop, leb, ltb, eqb, if◌then◌else◌, Ok, Err}
 use Rattle.algebra.specs.Words.{those}
-use Rattle.definitions.specs.declared.Answer.{Answer}
-use Rattle.definitions.specs.declared.Answer.TheVariants.{Done, Lengths, Damaged, OffGrid, NoLength, Conflict, NoSlot, NoRoom, UnknownHandle, BadWindow, ListShort}
+use Rattle.definitions.specs.Answer.{Answer}
+use Rattle.definitions.specs.declared.Refusal.TheVariants.{Lengths, Damaged, OffGrid, NoLength, Conflict, NoSlot, NoRoom, UnknownHandle, BadWindow, ListShort}
 use Rattle.definitions.specs.declared.Given.{Given}
 use Rattle.definitions.specs.declared.Kind.{Kind}
 use Rattle.definitions.specs.declared.Kind.TheVariants.{Crossing, Touching, Overlap, Same}
@@ -12,30 +12,30 @@ use Rattle.definitions.specs.Tables.{Tables, lengths_fit, sound, generation, is_
 
 -- the paper's number and detail for each answer
 abbrev pub refusal_of : Answer → ℕ
-refusal_of (Done d) = 0
-refusal_of Lengths = 1
-refusal_of Damaged = 2
-refusal_of OffGrid = 3
-refusal_of NoLength = 4
-refusal_of (Conflict d) = 5
-refusal_of NoSlot = 6
-refusal_of NoRoom = 7
-refusal_of UnknownHandle = 8
-refusal_of BadWindow = 9
-refusal_of ListShort = 10
+refusal_of (Ok d) = 0
+refusal_of (Err Lengths) = 1
+refusal_of (Err Damaged) = 2
+refusal_of (Err OffGrid) = 3
+refusal_of (Err NoLength) = 4
+refusal_of (Err (Conflict d)) = 5
+refusal_of (Err NoSlot) = 6
+refusal_of (Err NoRoom) = 7
+refusal_of (Err UnknownHandle) = 8
+refusal_of (Err BadWindow) = 9
+refusal_of (Err ListShort) = 10
 
 abbrev pub detail_of : Answer → ℕ
-detail_of (Done d) = d
-detail_of Lengths = 0
-detail_of Damaged = 0
-detail_of OffGrid = 0
-detail_of NoLength = 0
-detail_of (Conflict d) = d
-detail_of NoSlot = 0
-detail_of NoRoom = 0
-detail_of UnknownHandle = 0
-detail_of BadWindow = 0
-detail_of ListShort = 0
+detail_of (Ok d) = d
+detail_of (Err Lengths) = 0
+detail_of (Err Damaged) = 0
+detail_of (Err OffGrid) = 0
+detail_of (Err NoLength) = 0
+detail_of (Err (Conflict d)) = d
+detail_of (Err NoSlot) = 0
+detail_of (Err NoRoom) = 0
+detail_of (Err UnknownHandle) = 0
+detail_of (Err BadWindow) = 0
+detail_of (Err ListShort) = 0
 
 -- the one 64-bit number that the host gets
 abbrev pub number_of : Answer → ℕ
@@ -60,7 +60,7 @@ cleared t =
     record { lines = replicate (length t.lines) 0; nodes = replicate (length t.nodes) 0; listings = replicate (length t.listings) 0 }
 
 unfoldable pub start_of : Tables → Reply
-start_of t = if lengths_fit t then reply (Done 0) (cleared t) else reply Lengths t
+start_of t = if lengths_fit t then reply (Ok 0) (cleared t) else reply (Err Lengths) t
 
 -- ---- Insert
 
@@ -124,24 +124,24 @@ module _ (rule : Rule) where
 
   unfoldable pub insert_of : Tables → Given → Reply
   insert_of t g =
-      if not (lengths_fit t) then reply Lengths t else
-      if not (sound rule t) then reply Damaged t else
-      if not (all_on_grid g) then reply OffGrid t else
-      if no_length g then reply NoLength t else
+      if not (lengths_fit t) then reply (Err Lengths) t else
+      if not (sound rule t) then reply (Err Damaged) t else
+      if not (all_on_grid g) then reply (Err OffGrid) t else
+      if no_length g then reply (Err NoLength) t else
       elim (conflicting t.lines g) [
-        | s ∷ more ↦ reply (Conflict (conflict_detail t.lines s g)) t
+        | s ∷ more ↦ reply (Err (Conflict (conflict_detail t.lines s g))) t
         | [] ↦
             elim (free_slots t.lines) [
-              | [] ↦ reply NoSlot t
+              | [] ↦ reply (Err NoSlot) t
               | s ∷ more ↦
-                  if not (room_for t (placed t.lines s g)) then reply NoRoom t else
-                  reply (Done (s * 65536 + (generation t.lines s + 1))) (rebuilt t (placed t.lines s g))
+                  if not (room_for t (placed t.lines s g)) then reply (Err NoRoom) t else
+                  reply (Ok (s * 65536 + (generation t.lines s + 1))) (rebuilt t (placed t.lines s g))
             ]
       ]
 
   unfoldable pub delete_of : Tables → ℕ → Reply
   delete_of t h =
-      if not (lengths_fit t) then reply Lengths t else
-      if not (sound rule t) then reply Damaged t else
-      if not (known t.lines h) then reply UnknownHandle t else
-      reply (Done 0) (rebuilt t (freed t.lines (h / 65536)))
+      if not (lengths_fit t) then reply (Err Lengths) t else
+      if not (sound rule t) then reply (Err Damaged) t else
+      if not (known t.lines h) then reply (Err UnknownHandle) t else
+      reply (Ok 0) (rebuilt t (freed t.lines (h / 65536)))

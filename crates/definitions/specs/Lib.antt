@@ -1,6 +1,7 @@
 pub mod Shape
 pub mod Tree
 pub mod Tables
+pub mod Answer
 pub mod Calls
 pub mod Lookup
 pub mod Window

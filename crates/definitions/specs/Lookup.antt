@@ -1,9 +1,9 @@
 -- What locate and show leaf answer.
-use Rattle.std.specs.Prelude.{Bool, true, false, not, ◌&&◌, ◌||◌, List, [], ◌∷◌, ℕ, ◌+◌, ◌*◌, ◌-◌, ◌/◌, length, take, drop, leb, ltb, eqb, ℤ, pos, ◌*ℤ◌, ◌-ℤ◌, if◌then◌else◌}
+use Rattle.std.specs.Prelude.{Bool, true, false, not, ◌&&◌, ◌||◌, List, [], ◌∷◌, ℕ, ◌+◌, ◌*◌, ◌-◌, ◌/◌, length, take, drop, leb, ltb, eqb, ℤ, pos, ◌*ℤ◌, ◌-ℤ◌, if◌then◌else◌, Ok, Err}
 use Rattle.std.proofs.Math.IntN.{sub_ℕ}
 use Rattle.algebra.specs.Words.{those, is_positive, is_negative}
-use Rattle.definitions.specs.declared.Answer.{Answer}
-use Rattle.definitions.specs.declared.Answer.TheVariants.{Done, Lengths, Damaged, OffGrid}
+use Rattle.definitions.specs.Answer.{Answer}
+use Rattle.definitions.specs.declared.Refusal.TheVariants.{Lengths, Damaged, OffGrid}
 use Rattle.definitions.specs.declared.Point.{Point}
 use Rattle.definitions.specs.declared.Shown.{Shown}
 use Rattle.definitions.specs.Shape.{Line, Block, whole_map, nw_of, ne_of, sw_of, se_of, grid_point, turn, on}
@@ -141,7 +141,7 @@ not_shown r = record { told = record { answer = r; side = 0; west = record { 0 =
 abbrev pub shown_at : Leaf → List ℕ → Showing
 shown_at f listings =
     record {
-      told = record { answer = Done 0; side = f.place.side; west = record { 0 = f.place.west }; south = record { 0 = f.place.south } };
+      told = record { answer = Ok 0; side = f.place.side; west = record { 0 = f.place.west }; south = record { 0 = f.place.south } };
       first = f.first;
       part = take f.lists (drop f.first listings);
     }
@@ -149,16 +149,16 @@ shown_at f listings =
 module _ (rule : Rule) where
   unfoldable pub locate_of : Tables → List ℕ → List ℕ → Located
   locate_of t points answers =
-      if not (lengths_fit t && eqb (length points) (2 * length answers)) then record { answer = Lengths; answers = answers } else
-      if not (sound rule t) then record { answer = Damaged; answers = answers } else
-      record { answer = Done 0; answers = answers_to t.lines points }
+      if not (lengths_fit t && eqb (length points) (2 * length answers)) then record { answer = (Err Lengths); answers = answers } else
+      if not (sound rule t) then record { answer = (Err Damaged); answers = answers } else
+      record { answer = Ok 0; answers = answers_to t.lines points }
 
   unfoldable pub leaf_over : Tables → ℕ → ℕ → Leaf
   leaf_over t x y = leaf_at (grid_point x y) (tree rule (live_lines t.lines)) whole_map 0
 
   unfoldable pub show_of : Tables → ℕ → ℕ → Showing
   show_of t x y =
-      if not (lengths_fit t) then not_shown Lengths else
-      if not (sound rule t) then not_shown Damaged else
-      if not (on_grid x && on_grid y) then not_shown OffGrid else
+      if not (lengths_fit t) then not_shown (Err Lengths) else
+      if not (sound rule t) then not_shown (Err Damaged) else
+      if not (on_grid x && on_grid y) then not_shown (Err OffGrid) else
       shown_at (leaf_over t x y) t.listings

@@ -1,8 +1,8 @@
 -- What window answers: the slots of the live lines that meet a closed rectangle of grid numbers.
-use Rattle.std.specs.Prelude.{Bool, not, ◌&&◌, List, ◌++◌, ℕ, length, drop, leb, ltb, if◌then◌else◌}
+use Rattle.std.specs.Prelude.{Bool, not, ◌&&◌, List, ◌++◌, ℕ, length, drop, leb, ltb, if◌then◌else◌, Ok, Err}
 use Rattle.algebra.specs.Words.{those}
-use Rattle.definitions.specs.declared.Answer.{Answer}
-use Rattle.definitions.specs.declared.Answer.TheVariants.{Done, Lengths, Damaged, BadWindow, ListShort}
+use Rattle.definitions.specs.Answer.{Answer}
+use Rattle.definitions.specs.declared.Refusal.TheVariants.{Lengths, Damaged, BadWindow, ListShort}
 use Rattle.definitions.specs.declared.Window.{Window}
 use Rattle.definitions.specs.Shape.{Area, half, meets_area}
 use Rattle.definitions.specs.Tree.{Rule}
@@ -39,13 +39,13 @@ windowed r slots = record { answer = r; slots = slots }
 -- the slots at the front of a list that is long enough, and how many; later entries stay
 unfoldable pub listed_in : List ℕ → List ℕ → Windowed
 listed_in slots list =
-    if ltb (length list) (length slots) then windowed ListShort list else
-    windowed (Done (length slots)) (slots ++ drop (length slots) list)
+    if ltb (length list) (length slots) then windowed (Err ListShort) list else
+    windowed (Ok (length slots)) (slots ++ drop (length slots) list)
 
 module _ (rule : Rule) where
   unfoldable pub window_of : Tables → Window → List ℕ → Windowed
   window_of t w list =
-      if not (lengths_fit t) then windowed Lengths list else
-      if not (sound rule t) then windowed Damaged list else
-      if not (window_fits w) then windowed BadWindow list else
+      if not (lengths_fit t) then windowed (Err Lengths) list else
+      if not (sound rule t) then windowed (Err Damaged) list else
+      if not (window_fits w) then windowed (Err BadWindow) list else
       listed_in (slots_in t.lines (area_in w)) list

@@ -44,10 +44,9 @@ pub enum Kind {
     Same,
 }
 
-// What a call answers: done with its detail, or a refusal.
-#[derive(Clone, Copy)]
-pub enum Answer {
-    Done(u32),
+// Why a call is refused.
+#[derive(Clone, Copy, PartialEq, Eq)]
+pub enum Refusal {
     Lengths,
     Damaged,
     OffGrid,
@@ -59,6 +58,9 @@ pub enum Answer {
     BadWindow,
     ListShort,
 }
+
+// What a call answers: the detail of a call that is done, or the refusal.
+pub type Answer = Result<u32, Refusal>;
 
 // What show leaf tells: the leaf's side and south-west corner in half-steps, all 0 on refusal.
 #[derive(Clone, Copy)]

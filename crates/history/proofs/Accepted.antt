@@ -1,8 +1,8 @@
 -- What is accepted leaves a sound map; and the one number that the host gets tells the whole answer.
-use Rattle.std.specs.Prelude.{◌≡◌, refl, List, [], ◌∷◌, ℕ, ◌<◌}
+use Rattle.std.specs.Prelude.{◌≡◌, refl, List, [], ◌∷◌, ℕ, ◌<◌, Ok, Err}
 use Rattle.std.proofs.Common.{sym, ◌∙◌, subst, arith}
-use Rattle.definitions.specs.declared.Answer.{Answer}
-use Rattle.definitions.specs.declared.Answer.TheVariants.{Done, Lengths, Damaged, OffGrid, NoLength, Conflict, NoSlot, NoRoom, UnknownHandle, BadWindow, ListShort}
+use Rattle.definitions.specs.Answer.{Answer}
+use Rattle.definitions.specs.declared.Refusal.TheVariants.{Lengths, Damaged, OffGrid, NoLength, Conflict, NoSlot, NoRoom, UnknownHandle, BadWindow, ListShort}
 use Rattle.definitions.specs.declared.Given.{Given}
 use Rattle.definitions.specs.Calls.{refusal_of, detail_of, number_of, start_of, insert_of, delete_of}
 use Rattle.definitions.specs.Meaning.{SoundMap}
@@ -25,13 +25,13 @@ module _ (rule : Rule) (fair : Fair rule) (t : Tables) where
   is_sound : {u : Tables} → Sound rule u → SoundMap rule u
   is_sound {u} s = (sound_means rule u).0 (sound← rule u s)
 
-  pub insert_accepted : (g : Given) {h : ℕ} → (insert_of rule t g).answer ≡ Done h → SoundMap rule (insert_of rule t g).after
+  pub insert_accepted : (g : Given) {h : ℕ} → (insert_of rule t g).answer ≡ Ok h → SoundMap rule (insert_of rule t g).after
   insert_accepted g {h} e = is_sound (insert_sound rule fair t g (was_sound (((insert_exact rule t g).done h).0 e).1.1.0))
 
-  pub delete_accepted : (h : ℕ) {d : ℕ} → (delete_of rule t h).answer ≡ Done d → SoundMap rule (delete_of rule t h).after
+  pub delete_accepted : (h : ℕ) {d : ℕ} → (delete_of rule t h).answer ≡ Ok d → SoundMap rule (delete_of rule t h).after
   delete_accepted h {d} e = is_sound (delete_sound rule fair t h (was_sound (((delete_exact rule t h).done d).0 e).1.1.0))
 
-  pub start_accepted : {d : ℕ} → (start_of t).answer ≡ Done d → SoundMap rule (start_of t).after
+  pub start_accepted : {d : ℕ} → (start_of t).answer ≡ Ok d → SoundMap rule (start_of t).after
   start_accepted {d} e =
       let fit = stable (lengths_fit t) (lengths_mean t) (((start_exact t).done d).0 e).1.0 in
       is_sound (subst (Sound rule) (sym (start_made t d e)) (start_sound rule fair t fit.nodes.0))
@@ -40,20 +40,20 @@ module _ (rule : Rule) (fair : Fair rule) (t : Tables) where
 
 -- the one law by cases on the answers: each is told by its refusal and its detail
 abbrev refusals : List (ℕ → Answer)
-refusals = (λ d. Lengths) ∷ (λ d. Damaged) ∷ (λ d. OffGrid) ∷ (λ d. NoLength) ∷ Conflict ∷ (λ d. NoSlot) ∷ (λ d. NoRoom) ∷ (λ d. UnknownHandle) ∷ (λ d. BadWindow) ∷ (λ d. ListShort) ∷ []
+refusals = (λ d. Err Lengths) ∷ (λ d. Err Damaged) ∷ (λ d. Err OffGrid) ∷ (λ d. Err NoLength) ∷ (λ d. Err (Conflict d)) ∷ (λ d. Err NoSlot) ∷ (λ d. Err NoRoom) ∷ (λ d. Err UnknownHandle) ∷ (λ d. Err BadWindow) ∷ (λ d. Err ListShort) ∷ []
 
 answer_is : (a : Answer) → a ≡ standing refusals (place refusals (refusal_of a)) (detail_of a)
-answer_is (Done d) = refl
-answer_is Lengths = refl
-answer_is Damaged = refl
-answer_is OffGrid = refl
-answer_is NoLength = refl
-answer_is (Conflict d) = refl
-answer_is NoSlot = refl
-answer_is NoRoom = refl
-answer_is UnknownHandle = refl
-answer_is BadWindow = refl
-answer_is ListShort = refl
+answer_is (Ok d) = refl
+answer_is (Err Lengths) = refl
+answer_is (Err Damaged) = refl
+answer_is (Err OffGrid) = refl
+answer_is (Err NoLength) = refl
+answer_is (Err (Conflict d)) = refl
+answer_is (Err NoSlot) = refl
+answer_is (Err NoRoom) = refl
+answer_is (Err UnknownHandle) = refl
+answer_is (Err BadWindow) = refl
+answer_is (Err ListShort) = refl
 
 pub number_tells : (a b : Answer) → detail_of a < 4294967296 → detail_of b < 4294967296 → number_of a ≡ number_of b → a ≡ b
 number_tells a b h k e = answer_is a ∙ (λ i. standing refusals (place refusals (refusal i)) (detail i)) ∙ sym (answer_is b)

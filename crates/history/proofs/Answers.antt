@@ -1,5 +1,5 @@
 -- After any calls a map is sound, and a deleted number is refused with 8.
-use Rattle.definitions.specs.declared.Answer.TheVariants.{Done, UnknownHandle}
+use Rattle.definitions.specs.declared.Refusal.TheVariants.{UnknownHandle}
 use Rattle.definitions.specs.declared.Given.{Given}
 use Rattle.algebra.specs.Lists.{padded_length}
 use Rattle.algebra.specs.Tests.{and_l, and_r}
@@ -16,7 +16,7 @@ use Rattle.meaning.specs.Changes.{sub_freed}
 use Rattle.history.proofs.Kept.{Outcome, kept, took, insert_outcome, insert_sound, delete_sound, start_sound, calls_sound}
 use Rattle.history.proofs.Ledger.{known_there, Deleted, delete_is, refused_ever_after, Deleted.refused as d_refused, Deleted.removed as d_removed}
 use Rattle.history.proofs.Restores.{fit_new, delete_done}
-use Rattle.std.specs.Prelude.{◌≡◌, Bool, ◌&&◌, ℕ, ◌/◌, ◌%◌, ◌≤◌, ◌<◌, leb, eqb, length}
+use Rattle.std.specs.Prelude.{◌≡◌, Bool, ◌&&◌, ℕ, ◌/◌, ◌%◌, ◌≤◌, ◌<◌, leb, eqb, length, Ok, Err}
 use Rattle.std.proofs.Math.Path.{refl}
 use Rattle.std.proofs.Math.Bool.{true, false}
 use mathlib.Core.List.{List, [], ◌∷◌}
@@ -84,11 +84,11 @@ module _ (rule : Rule) (fair : Fair rule) where
       record { fit = calls_fit cs (delete_of rule t h).after s (delete_fit t h r.ok r.fit); ok = calls_sound rule fair cs (delete_of rule t h).after s }
 
   -- on a ready map a delete is done or answers 8
-  delete_8 : (t : Tables) (h : ℕ) → Ready t → 0 < refusal_of (delete_of rule t h).answer → (delete_of rule t h).answer ≡ UnknownHandle
+  delete_8 : (t : Tables) (h : ℕ) → Ready t → 0 < refusal_of (delete_of rule t h).answer → (delete_of rule t h).answer ≡ Err UnknownHandle
   unfolding delete_of
   delete_8 t h r k = go (known t.lines h) refl
     where
-      go : (b : Bool) → known t.lines h ≡ b → (delete_of rule t h).answer ≡ UnknownHandle
+      go : (b : Bool) → known t.lines h ≡ b → (delete_of rule t h).answer ≡ Err UnknownHandle
       go true e = absurd (none (rw (delete_done rule fair t h r.fit (sound← rule t r.ok) e) at k))
         where
           none : 0 < 0 → ⊥
@@ -96,7 +96,7 @@ module _ (rule : Rule) (fair : Fair rule) where
       go false e = rw (r.fit, sound← rule t r.ok, e) refl
 
   -- A deleted number answers 8 ever after
-  pub deleted_8 : (t : Tables) → lengths_fit t ≡ true → (cs : List Call) (h : ℕ) → (delete_of rule (after_all rule (cleared t) cs) h).answer ≡ Done 0 → (ds : List Call)
-      → (delete_of rule (after_all rule (delete_of rule (after_all rule (cleared t) cs) h).after ds) h).answer ≡ UnknownHandle
+  pub deleted_8 : (t : Tables) → lengths_fit t ≡ true → (cs : List Call) (h : ℕ) → (delete_of rule (after_all rule (cleared t) cs) h).answer ≡ Ok 0 → (ds : List Call)
+      → (delete_of rule (after_all rule (delete_of rule (after_all rule (cleared t) cs) h).after ds) h).answer ≡ Err UnknownHandle
   deleted_8 t e cs h q ds =
       delete_8 _ h (ready_after (after_all rule (cleared t) cs) h (history_ready t e cs) ds) (refused_ever_after rule (after_all rule (cleared t) cs) h q ds)

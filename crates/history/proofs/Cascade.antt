@@ -1,8 +1,7 @@
 -- A cascade of tests answers by the first that applies: the laws that all calls share.
-use Rattle.std.specs.Prelude.{◌≡◌, refl, ◌↔◌, Bool, true, false, List, [], ◌∷◌, ℕ, zero, suc, ◌<◌, eqb, if◌then◌else◌}
+use Rattle.std.specs.Prelude.{◌≡◌, refl, ◌↔◌, Bool, true, false, List, [], ◌∷◌, ℕ, zero, suc, ◌<◌, eqb, if◌then◌else◌, Ok}
 use Rattle.std.proofs.Common.{sym, ◌∙◌, ap, subst, arith, eqb-true}
-use Rattle.definitions.specs.declared.Answer.{Answer}
-use Rattle.definitions.specs.declared.Answer.TheVariants.{Done}
+use Rattle.definitions.specs.Answer.{Answer}
 use Rattle.definitions.specs.Calls.{refusal_of, detail_of}
 use Rattle.meaning.specs.Chain.{fails}
 use Rattle.history.specs.Refusals.{None}
@@ -55,7 +54,7 @@ place (m ∷ more) n = if eqb n (refusal_of (m 0)) then 0 else suc (place more n
 
 -- the answer that stands there
 abbrev pub standing : List (ℕ → Answer) → ℕ → ℕ → Answer
-standing [] i d = Done d
+standing [] i d = Ok d
 standing (m ∷ more) zero d = m d
 standing (m ∷ more) (suc i) d = standing more i d
 
@@ -109,7 +108,7 @@ module _ {R : Type 0} {answer : R → Answer} {Kept Made : R → Type 0} {told :
   pub kept : 0 < refusal_of (answer x) → Kept x
   kept h = of_refusal (λ d. Handle d × Made x) (λ d. Named d × Kept x) (λ d k. k.1) (answer x) h came.asked
 
-  pub made : (d : ℕ) → answer x ≡ Done d → Made x
+  pub made : (d : ℕ) → answer x ≡ Ok d → Made x
   made d e = (subst Here e came.asked).1
 
   by_number : (n : ℕ) → (refusal_of (answer x) ≡ n) ↔ First (place told n) tests
@@ -135,8 +134,8 @@ module _ {R : Type 0} {answer : R → Answer} {Kept Made : R → Type 0} {told :
       of_answer d e = right d (subst Here e came.asked)
 
   -- done, where the detail is always 0
-  pub done_0 : ((d : ℕ) → Handle d → d ≡ 0) → ((d : ℕ) → standing told (place told 0) d ≡ Done d) → Holds (place told 0) tests → (d : ℕ) → (answer x ≡ Done d) ↔ (d ≡ 0) × None (place told 0) tests
-  done_0 zero_only last h = detailed Done 0 (λ d. d ≡ 0) (λ d. refl) last (λ d a. zero_only d a.0) (λ d e p q. p ∙ sym q) (λ d p. h)
+  pub done_0 : ((d : ℕ) → Handle d → d ≡ 0) → ((d : ℕ) → standing told (place told 0) d ≡ Ok d) → Holds (place told 0) tests → (d : ℕ) → (answer x ≡ Ok d) ↔ (d ≡ 0) × None (place told 0) tests
+  done_0 zero_only last h = detailed Ok 0 (λ d. d ≡ 0) (λ d. refl) last (λ d a. zero_only d a.0) (λ d e p q. p ∙ sym q) (λ d p. h)
 
 -- the first test has none before it
 pub alone : {A C : Type 0} → (A ↔ C × Unit {0}) → A ↔ C

@@ -1,5 +1,5 @@
 -- The live lines are exactly those that the calls and their answers leave: a running list of what is held.
-use Rattle.definitions.specs.declared.Answer.{Answer}
+use Rattle.definitions.specs.Answer.{Answer}
 use Rattle.definitions.specs.declared.Given.{Given}
 use Rattle.algebra.specs.Lists.{in_those, of_those, in_up_from, to_up_from}
 use Rattle.algebra.specs.Tests.{no_path, and_l, and_r}

@@ -1,6 +1,6 @@
 -- Insert and delete keep a map sound, and so do any calls after a start.
-use Rattle.definitions.specs.declared.Answer.{Answer}
-use Rattle.definitions.specs.declared.Answer.TheVariants.{Done, Lengths, Damaged, OffGrid, NoLength, Conflict, NoSlot, NoRoom}
+use Rattle.definitions.specs.Answer.{Answer}
+use Rattle.definitions.specs.declared.Refusal.TheVariants.{Lengths, Damaged, OffGrid, NoLength, Conflict, NoSlot, NoRoom}
 use Rattle.definitions.specs.declared.Given.{Given}
 use Rattle.algebra.specs.Lists.{of_those, in_those, every→, every←, padded_length}
 use Rattle.algebra.specs.Tests.{no_path, and_l, and_r, and_b, or_l, or_r, false_by}
@@ -18,7 +18,7 @@ use Rattle.meaning.specs.Slots.{same_or_not, placed_slots, others_live, others_l
 use Rattle.meaning.specs.Sound.{Sound, sound←, fits_nodes, fits_listings, conflict_back, grid_proper, live_proper}
 use Rattle.history.proofs.Cascade.{branch, by_first}
 use Rattle.history.proofs.Ledger.{free_first, Deleted, refused, removed, delete_is, known_there}
-use Rattle.std.specs.Prelude.{◌≡◌, ◌⊎◌, Bool, ◌&&◌, ◌||◌, leb, ltb, eqb, length}
+use Rattle.std.specs.Prelude.{◌≡◌, ◌⊎◌, Bool, ◌&&◌, ◌||◌, leb, ltb, eqb, length, Ok, Err}
 use Rattle.std.proofs.Math.Path.{refl, ap}
 use Rattle.std.proofs.Common.{sym, ◌∙◌, inl, inr}
 use Rattle.std.proofs.Math.Bool.{true, false, not}
@@ -78,20 +78,20 @@ module _ (rule : Rule) (fair : Fair rule) where
   pub data Outcome (t : Tables) (g : Given) : Reply → Type 0 where
     kept : (r : Answer) → 0 < refusal_of r → Outcome t g (reply r t)
     took : (s : ℕ) (more : List ℕ) → Passed t g s more
-        → Outcome t g (reply (Done (s * 65536 + (generation t.lines s + 1))) (rebuilt rule t (placed t.lines s g)))
+        → Outcome t g (reply (Ok (s * 65536 + (generation t.lines s + 1))) (rebuilt rule t (placed t.lines s g)))
 
   pub insert_outcome : (t : Tables) (g : Given) → Outcome t g (insert_of rule t g)
   unfolding insert_of
   insert_outcome t g =
-      branch O (not (lengths_fit t)) (λ e. kept Lengths (omega arith))
-      (λ e1. branch O (not (sound rule t)) (λ e. kept Damaged (omega arith))
-      (λ e2. branch O (not (all_on_grid g)) (λ e. kept OffGrid (omega arith))
-      (λ e3. branch O (no_length g) (λ e. kept NoLength (omega arith))
-      (λ e4. by_first O (conflicting t.lines g) (λ s more e. kept (Conflict (conflict_detail t.lines s g)) (omega arith))
+      branch O (not (lengths_fit t)) (λ e. kept (Err Lengths) (omega arith))
+      (λ e1. branch O (not (sound rule t)) (λ e. kept (Err Damaged) (omega arith))
+      (λ e2. branch O (not (all_on_grid g)) (λ e. kept (Err OffGrid) (omega arith))
+      (λ e3. branch O (no_length g) (λ e. kept (Err NoLength) (omega arith))
+      (λ e4. by_first O (conflicting t.lines g) (λ s more e. kept (Err (Conflict (conflict_detail t.lines s g))) (omega arith))
       (λ e5. by_first O (free_slots t.lines)
-      (λ s more e6. branch O (not (room_for rule t (placed t.lines s g))) (λ e. kept NoRoom (omega arith))
+      (λ s more e6. branch O (not (room_for rule t (placed t.lines s g))) (λ e. kept (Err NoRoom) (omega arith))
       (λ e7. took s more (record { fit = not-false _ e1; ok = not-false _ e2; grid = not-false _ e3; long = e4; clear = e5; slot = e6; room = not-false _ e7 })))
-      (λ e. kept NoSlot (omega arith)))))))
+      (λ e. kept (Err NoSlot) (omega arith)))))))
     where
       O : Reply → Type 0
       O = Outcome t g

@@ -1,6 +1,6 @@
 -- No number is given twice, and a deleted number is refused ever after.
-use Rattle.definitions.specs.declared.Answer.{Answer}
-use Rattle.definitions.specs.declared.Answer.TheVariants.{Done, Lengths, Damaged, OffGrid, NoLength, Conflict, NoSlot, NoRoom, UnknownHandle}
+use Rattle.definitions.specs.Answer.{Answer}
+use Rattle.definitions.specs.declared.Refusal.TheVariants.{Lengths, Damaged, OffGrid, NoLength, Conflict, NoSlot, NoRoom, UnknownHandle}
 use Rattle.definitions.specs.declared.Given.{Given}
 use Rattle.algebra.specs.Lists.{in_up_from, of_those}
 use Rattle.algebra.specs.Tests.{and_r, no_path}
@@ -13,7 +13,7 @@ use Rattle.plane.specs.Compare.{order}
 use Rattle.meaning.specs.Slots.{same_or_not, in_slot, other_slot, lives_other as live_other, bare_dead as freed_dead}
 use Rattle.history.proofs.Cascade.{branch, by_first}
 use Rattle.history.specs.Demand.{given_now, given_by, Distinct, Distinct.none, Distinct.one}
-use Rattle.std.specs.Prelude.{◌≡◌, ◌⊎◌, Bool, false, not, ◌&&◌, ltb, eqb, length}
+use Rattle.std.specs.Prelude.{◌≡◌, ◌⊎◌, Bool, false, not, ◌&&◌, ltb, eqb, length, Ok, Err}
 use Rattle.std.proofs.Math.Path.{refl}
 use Rattle.std.proofs.Common.{sym, ◌∙◌, subst, ltb-true, eqb-true, ne_eqb}
 use Rattle.std.proofs.Math.Logic.{inl, inr}
@@ -117,19 +117,19 @@ module _ (rule : Rule) where
   pub data Inserted (t : Tables) (g : Given) : Reply → Type 0 where
     refused : (r : Answer) → 0 < refusal_of r → Inserted t g (reply r t)
     taken : (s : ℕ) (more : List ℕ) → free_slots t.lines ≡ s ∷ more
-        → Inserted t g (reply (Done (s * 65536 + (generation t.lines s + 1))) (rebuilt rule t (placed t.lines s g)))
+        → Inserted t g (reply (Ok (s * 65536 + (generation t.lines s + 1))) (rebuilt rule t (placed t.lines s g)))
 
   pub insert_is : (t : Tables) (g : Given) → Inserted t g (insert_of rule t g)
   unfolding insert_of
   insert_is t g =
-      branch I (not (lengths_fit t)) (λ e. refused Lengths (omega arith))
-      (λ e. branch I (not (sound rule t)) (λ e. refused Damaged (omega arith))
-      (λ e. branch I (not (all_on_grid g)) (λ e. refused OffGrid (omega arith))
-      (λ e. branch I (no_length g) (λ e. refused NoLength (omega arith))
-      (λ e. by_first I (conflicting t.lines g) (λ s more e. refused (Conflict (conflict_detail t.lines s g)) (omega arith))
+      branch I (not (lengths_fit t)) (λ e. refused (Err Lengths) (omega arith))
+      (λ e. branch I (not (sound rule t)) (λ e. refused (Err Damaged) (omega arith))
+      (λ e. branch I (not (all_on_grid g)) (λ e. refused (Err OffGrid) (omega arith))
+      (λ e. branch I (no_length g) (λ e. refused (Err NoLength) (omega arith))
+      (λ e. by_first I (conflicting t.lines g) (λ s more e. refused (Err (Conflict (conflict_detail t.lines s g))) (omega arith))
       (λ e. by_first I (free_slots t.lines)
-      (λ s more e. branch I (not (room_for rule t (placed t.lines s g))) (λ f. refused NoRoom (omega arith)) (λ f. taken s more e))
-      (λ e. refused NoSlot (omega arith)))))))
+      (λ s more e. branch I (not (room_for rule t (placed t.lines s g))) (λ f. refused (Err NoRoom) (omega arith)) (λ f. taken s more e))
+      (λ e. refused (Err NoSlot) (omega arith)))))))
     where
       I : Reply → Type 0
       I = Inserted t g
@@ -145,14 +145,14 @@ module _ (rule : Rule) where
   -- delete: a refusal, or a known slot freed
   pub data Deleted (t : Tables) (h : ℕ) : Reply → Type 0 where
     refused : (r : Answer) → 0 < refusal_of r → Deleted t h (reply r t)
-    removed : known t.lines h ≡ true → Deleted t h (reply (Done 0) (rebuilt rule t (freed t.lines (h / 65536))))
+    removed : known t.lines h ≡ true → Deleted t h (reply (Ok 0) (rebuilt rule t (freed t.lines (h / 65536))))
 
   pub delete_is : (t : Tables) (h : ℕ) → Deleted t h (delete_of rule t h)
   unfolding delete_of
   delete_is t h =
-      branch D (not (lengths_fit t)) (λ e. refused Lengths (omega arith))
-      (λ e. branch D (not (sound rule t)) (λ e. refused Damaged (omega arith))
-      (λ e. branch D (not (known t.lines h)) (λ e. refused UnknownHandle (omega arith)) (λ e. removed (not-false (known t.lines h) e))))
+      branch D (not (lengths_fit t)) (λ e. refused (Err Lengths) (omega arith))
+      (λ e. branch D (not (sound rule t)) (λ e. refused (Err Damaged) (omega arith))
+      (λ e. branch D (not (known t.lines h)) (λ e. refused (Err UnknownHandle) (omega arith)) (λ e. removed (not-false (known t.lines h) e))))
     where
       D : Reply → Type 0
       D = Deleted t h
@@ -290,11 +290,11 @@ module _ (rule : Rule) where
   dead_step t (window w slots) h d = d
 
   -- an accepted delete leaves its number dead
-  dies : (t : Tables) (h : ℕ) → (delete_of rule t h).answer ≡ Done 0 → Dead (delete_of rule t h).after h
+  dies : (t : Tables) (h : ℕ) → (delete_of rule t h).answer ≡ Ok 0 → Dead (delete_of rule t h).after h
   unfolding rebuilt
   dies t h e = go (delete_is t h) e
     where
-      go : {r : Reply} → Deleted t h r → r.answer ≡ Done 0 → Dead r.after h
+      go : {r : Reply} → Deleted t h r → r.answer ≡ Ok 0 → Dead r.after h
       go (refused r k) q = absurd (nope (subst (λ (a : Answer). 0 < refusal_of a) q k))
         where
           nope : 0 < 0 → ⊥
@@ -326,6 +326,6 @@ module _ (rule : Rule) where
   dead_after (c ∷ more) t h d = dead_after more (reply_to rule t c).after h (dead_step t c h d)
 
   -- A deleted number is refused ever after
-  pub refused_ever_after : (t : Tables) (h : ℕ) → (delete_of rule t h).answer ≡ Done 0 → (cs : List Call)
+  pub refused_ever_after : (t : Tables) (h : ℕ) → (delete_of rule t h).answer ≡ Ok 0 → (cs : List Call)
       → 0 < refusal_of (delete_of rule (after_all rule (delete_of rule t h).after cs) h).answer
   refused_ever_after t h e cs = dead_refused _ h (dead_after cs (delete_of rule t h).after h (dies t h e))

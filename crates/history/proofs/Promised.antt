@@ -1,11 +1,11 @@
 -- The promised statements: every theorem that docs/PROMISES.md rests on and this crate sees, its whole type written out once more and given by
 -- the theorem. Nothing depends on this file; a theorem or record that is weakened elsewhere is refused here.
-use Rattle.std.specs.Prelude.{◌≡◌, refl, ◌⊎◌, ◌↔◌, true, not, ℕ, ◌+◌, ◌*◌, ◌/◌, ◌%◌, ◌≤◌, ◌<◌, eqb, length, take, get_or, replicate}
+use Rattle.std.specs.Prelude.{◌≡◌, refl, ◌⊎◌, ◌↔◌, true, not, ℕ, ◌+◌, ◌*◌, ◌/◌, ◌%◌, ◌≤◌, ◌<◌, eqb, length, take, get_or, replicate, Ok, Err}
 use mathlib.Core.List.{List, [], ◌∷◌, ◌++◌, Memᴰ}
 use Rattle.std.proofs.Common.{arith}
 use Rattle.algebra.specs.Words.{Rising, those, every, padded}
-use Rattle.definitions.specs.declared.Answer.{Answer}
-use Rattle.definitions.specs.declared.Answer.TheVariants.{Done, Lengths, Damaged, OffGrid, NoLength, Conflict, NoSlot, NoRoom, UnknownHandle, BadWindow, ListShort}
+use Rattle.definitions.specs.Answer.{Answer}
+use Rattle.definitions.specs.declared.Refusal.TheVariants.{Lengths, Damaged, OffGrid, NoLength, Conflict, NoSlot, NoRoom, UnknownHandle, BadWindow, ListShort}
 use Rattle.definitions.specs.declared.Given.{Given}
 use Rattle.definitions.specs.declared.Kind.{Kind}
 use Rattle.definitions.specs.declared.Kind.TheVariants.{Crossing, Touching, Overlap, Same}
@@ -49,12 +49,12 @@ use Rattle.history.proofs.Accepted.{start_accepted, insert_accepted, delete_acce
 
 -- ---- The one number: refusal × 2^32 + detail
 
-number_done : (d : ℕ) → number_of (Done d) ≡ d
+number_done : (d : ℕ) → number_of (Ok d) ≡ d
 number_done d = omega arith
 
-number_refused : (number_of Lengths ≡ 1 * 4294967296) × (number_of Damaged ≡ 2 * 4294967296) × (number_of OffGrid ≡ 3 * 4294967296) × (number_of NoLength ≡ 4 * 4294967296)
-    × ((d : ℕ) → number_of (Conflict d) ≡ 5 * 4294967296 + d) × (number_of NoSlot ≡ 6 * 4294967296) × (number_of NoRoom ≡ 7 * 4294967296) × (number_of UnknownHandle ≡ 8 * 4294967296)
-    × (number_of BadWindow ≡ 9 * 4294967296) × (number_of ListShort ≡ 10 * 4294967296)
+number_refused : (number_of (Err Lengths) ≡ 1 * 4294967296) × (number_of (Err Damaged) ≡ 2 * 4294967296) × (number_of (Err OffGrid) ≡ 3 * 4294967296) × (number_of (Err NoLength) ≡ 4 * 4294967296)
+    × ((d : ℕ) → number_of (Err (Conflict d)) ≡ 5 * 4294967296 + d) × (number_of (Err NoSlot) ≡ 6 * 4294967296) × (number_of (Err NoRoom) ≡ 7 * 4294967296) × (number_of (Err UnknownHandle) ≡ 8 * 4294967296)
+    × (number_of (Err BadWindow) ≡ 9 * 4294967296) × (number_of (Err ListShort) ≡ 10 * 4294967296)
 number_refused = (refl, refl, refl, refl, λ d. refl, refl, refl, refl, refl, refl)
 
 kinds_numbered : (kind_number Crossing ≡ 1) × (kind_number Touching ≡ 2) × (kind_number Overlap ≡ 3) × (kind_number Same ≡ 4)
@@ -66,13 +66,13 @@ number_whole = number_tells
 -- ---- Demand 1: the refusal table, the first that applies; a refusal changes no entry
 
 module _ (t : Tables) where
-  start_lengths : ((start_of t).answer ≡ Lengths) ↔ WrongLengths t
+  start_lengths : ((start_of t).answer ≡ Err Lengths) ↔ WrongLengths t
   start_lengths = (start_exact t).lengths
 
-  start_done : (d : ℕ) → ((start_of t).answer ≡ Done d) ↔ (d ≡ 0) × None 1 (WrongLengths t ∷ [])
+  start_done : (d : ℕ) → ((start_of t).answer ≡ Ok d) ↔ (d ≡ 0) × None 1 (WrongLengths t ∷ [])
   start_done = (start_exact t).done
 
-  start_all0 : (d : ℕ) → (start_of t).answer ≡ Done d → All0 t (start_of t).after
+  start_all0 : (d : ℕ) → (start_of t).answer ≡ Ok d → All0 t (start_of t).after
   start_all0 = (start_exact t).all0
 
   start_kept : 0 < refusal_of (start_of t).answer → (start_of t).after ≡ t
@@ -82,39 +82,39 @@ module _ (rule : Rule) (t : Tables) (g : Given) where
   abbrev insert_tests : List (Type 0)
   insert_tests = WrongLengths t ∷ Unsound rule t ∷ AboveGrid g ∷ EndsEqual g ∷ Some (InTheWay t.lines g) ∷ AllTaken t.lines ∷ TooLarge rule t g ∷ []
 
-  insert_lengths : ((insert_of rule t g).answer ≡ Lengths) ↔ WrongLengths t
+  insert_lengths : ((insert_of rule t g).answer ≡ Err Lengths) ↔ WrongLengths t
   insert_lengths = (insert_exact rule t g).lengths
 
-  insert_damaged : ((insert_of rule t g).answer ≡ Damaged) ↔ Unsound rule t × None 1 insert_tests
+  insert_damaged : ((insert_of rule t g).answer ≡ Err Damaged) ↔ Unsound rule t × None 1 insert_tests
   insert_damaged = (insert_exact rule t g).damaged
 
-  insert_off_grid : ((insert_of rule t g).answer ≡ OffGrid) ↔ AboveGrid g × None 2 insert_tests
+  insert_off_grid : ((insert_of rule t g).answer ≡ Err OffGrid) ↔ AboveGrid g × None 2 insert_tests
   insert_off_grid = (insert_exact rule t g).off_grid
 
-  insert_no_length : ((insert_of rule t g).answer ≡ NoLength) ↔ EndsEqual g × None 3 insert_tests
+  insert_no_length : ((insert_of rule t g).answer ≡ Err NoLength) ↔ EndsEqual g × None 3 insert_tests
   insert_no_length = (insert_exact rule t g).no_length
 
-  insert_conflict : (d : ℕ) → ((insert_of rule t g).answer ≡ Conflict d)
+  insert_conflict : (d : ℕ) → ((insert_of rule t g).answer ≡ Err (Conflict d))
       ↔ ((s : ℕ) × (k : Kind) × Lowest (InTheWay t.lines g) s × KindIs (line_at t.lines s) (given_line g) k × (d ≡ kind_number k * 65536 + s)) × None 4 insert_tests
   insert_conflict = (insert_exact rule t g).conflict
 
-  insert_no_slot : ((insert_of rule t g).answer ≡ NoSlot) ↔ AllTaken t.lines × None 5 insert_tests
+  insert_no_slot : ((insert_of rule t g).answer ≡ Err NoSlot) ↔ AllTaken t.lines × None 5 insert_tests
   insert_no_slot = (insert_exact rule t g).no_slot
 
   insert_no_slot_16 : ((s : ℕ) → generation t.lines s ≤ 65535)
-      → ((insert_of rule t g).answer ≡ NoSlot) ↔ ((s : ℕ) → s < length t.lines / 8 → Live t.lines s ⊎ (generation t.lines s ≡ 65535)) × None 5 insert_tests
+      → ((insert_of rule t g).answer ≡ Err NoSlot) ↔ ((s : ℕ) → s < length t.lines / 8 → Live t.lines s ⊎ (generation t.lines s ≡ 65535)) × None 5 insert_tests
   insert_no_slot_16 = no_slot_16 rule t g
 
-  insert_no_room : ((insert_of rule t g).answer ≡ NoRoom) ↔ TooLarge rule t g × None 6 insert_tests
+  insert_no_room : ((insert_of rule t g).answer ≡ Err NoRoom) ↔ TooLarge rule t g × None 6 insert_tests
   insert_no_room = (insert_exact rule t g).no_room
 
-  insert_no_room_exact : Fair rule → ((insert_of rule t g).answer ≡ NoRoom) ↔ NeedsMore rule t (given_line g ∷ live_lines t.lines) × None 6 insert_tests
+  insert_no_room_exact : Fair rule → ((insert_of rule t g).answer ≡ Err NoRoom) ↔ NeedsMore rule t (given_line g ∷ live_lines t.lines) × None 6 insert_tests
   insert_no_room_exact fair = no_room_exact rule fair t g
 
-  insert_done : (h : ℕ) → ((insert_of rule t g).answer ≡ Done h) ↔ ((s : ℕ) × Lowest (Vacant t.lines) s × (h ≡ s * 65536 + (generation t.lines s + 1))) × None 7 insert_tests
+  insert_done : (h : ℕ) → ((insert_of rule t g).answer ≡ Ok h) ↔ ((s : ℕ) × Lowest (Vacant t.lines) s × (h ≡ s * 65536 + (generation t.lines s + 1))) × None 7 insert_tests
   insert_done = (insert_exact rule t g).done
 
-  insert_put : (h s : ℕ) → (insert_of rule t g).answer ≡ Done h → Lowest (Vacant t.lines) s → PutIn rule t g s (insert_of rule t g).after
+  insert_put : (h s : ℕ) → (insert_of rule t g).answer ≡ Ok h → Lowest (Vacant t.lines) s → PutIn rule t g s (insert_of rule t g).after
   insert_put = (insert_exact rule t g).put
 
   insert_kept : 0 < refusal_of (insert_of rule t g).answer → (insert_of rule t g).after ≡ t
@@ -124,19 +124,19 @@ module _ (rule : Rule) (t : Tables) (h : ℕ) where
   abbrev delete_tests : List (Type 0)
   delete_tests = WrongLengths t ∷ Unsound rule t ∷ Unknown t.lines h ∷ []
 
-  delete_lengths : ((delete_of rule t h).answer ≡ Lengths) ↔ WrongLengths t
+  delete_lengths : ((delete_of rule t h).answer ≡ Err Lengths) ↔ WrongLengths t
   delete_lengths = (delete_exact rule t h).lengths
 
-  delete_damaged : ((delete_of rule t h).answer ≡ Damaged) ↔ Unsound rule t × None 1 delete_tests
+  delete_damaged : ((delete_of rule t h).answer ≡ Err Damaged) ↔ Unsound rule t × None 1 delete_tests
   delete_damaged = (delete_exact rule t h).damaged
 
-  delete_unknown : ((delete_of rule t h).answer ≡ UnknownHandle) ↔ Unknown t.lines h × None 2 delete_tests
+  delete_unknown : ((delete_of rule t h).answer ≡ Err UnknownHandle) ↔ Unknown t.lines h × None 2 delete_tests
   delete_unknown = (delete_exact rule t h).unknown
 
-  delete_done : (d : ℕ) → ((delete_of rule t h).answer ≡ Done d) ↔ (d ≡ 0) × None 3 delete_tests
+  delete_done : (d : ℕ) → ((delete_of rule t h).answer ≡ Ok d) ↔ (d ≡ 0) × None 3 delete_tests
   delete_done = (delete_exact rule t h).done
 
-  delete_emptied : Fair rule → (d : ℕ) → (delete_of rule t h).answer ≡ Done d → TakenOut rule t (h / 65536) (delete_of rule t h).after
+  delete_emptied : Fair rule → (d : ℕ) → (delete_of rule t h).answer ≡ Ok d → TakenOut rule t (h / 65536) (delete_of rule t h).after
   delete_emptied = (delete_exact rule t h).emptied
 
   delete_kept : 0 < refusal_of (delete_of rule t h).answer → (delete_of rule t h).after ≡ t
@@ -146,16 +146,16 @@ module _ (rule : Rule) (t : Tables) (points answers : List ℕ) where
   abbrev locate_tests : List (Type 0)
   locate_tests = WrongLists t points answers ∷ Unsound rule t ∷ []
 
-  locate_lengths : ((locate_of rule t points answers).answer ≡ Lengths) ↔ WrongLists t points answers
+  locate_lengths : ((locate_of rule t points answers).answer ≡ Err Lengths) ↔ WrongLists t points answers
   locate_lengths = (locate_exact rule t points answers).lengths
 
-  locate_damaged : ((locate_of rule t points answers).answer ≡ Damaged) ↔ Unsound rule t × None 1 locate_tests
+  locate_damaged : ((locate_of rule t points answers).answer ≡ Err Damaged) ↔ Unsound rule t × None 1 locate_tests
   locate_damaged = (locate_exact rule t points answers).damaged
 
-  locate_done : (d : ℕ) → ((locate_of rule t points answers).answer ≡ Done d) ↔ (d ≡ 0) × None 2 locate_tests
+  locate_done : (d : ℕ) → ((locate_of rule t points answers).answer ≡ Ok d) ↔ (d ≡ 0) × None 2 locate_tests
   locate_done = (locate_exact rule t points answers).done
 
-  locate_answered : (d : ℕ) → (locate_of rule t points answers).answer ≡ Done d → AnswersAll t.lines points answers (locate_of rule t points answers).answers
+  locate_answered : (d : ℕ) → (locate_of rule t points answers).answer ≡ Ok d → AnswersAll t.lines points answers (locate_of rule t points answers).answers
   locate_answered = (locate_exact rule t points answers).answered
 
   locate_kept : 0 < refusal_of (locate_of rule t points answers).answer → (locate_of rule t points answers).answers ≡ answers
@@ -165,21 +165,21 @@ module _ (rule : Rule) (t : Tables) (x y : ℕ) where
   abbrev show_tests : List (Type 0)
   show_tests = WrongLengths t ∷ Unsound rule t ∷ ((16383 < x) ⊎ (16383 < y)) ∷ []
 
-  show_lengths : ((show_of rule t x y).told.answer ≡ Lengths) ↔ WrongLengths t
+  show_lengths : ((show_of rule t x y).told.answer ≡ Err Lengths) ↔ WrongLengths t
   show_lengths = (show_exact rule t x y).lengths
 
-  show_damaged : ((show_of rule t x y).told.answer ≡ Damaged) ↔ Unsound rule t × None 1 show_tests
+  show_damaged : ((show_of rule t x y).told.answer ≡ Err Damaged) ↔ Unsound rule t × None 1 show_tests
   show_damaged = (show_exact rule t x y).damaged
 
-  show_off_grid : ((show_of rule t x y).told.answer ≡ OffGrid) ↔ ((16383 < x) ⊎ (16383 < y)) × None 2 show_tests
+  show_off_grid : ((show_of rule t x y).told.answer ≡ Err OffGrid) ↔ ((16383 < x) ⊎ (16383 < y)) × None 2 show_tests
   show_off_grid = (show_exact rule t x y).off_grid
 
-  show_done : (d : ℕ) → ((show_of rule t x y).told.answer ≡ Done d) ↔ (d ≡ 0) × None 3 show_tests
+  show_done : (d : ℕ) → ((show_of rule t x y).told.answer ≡ Ok d) ↔ (d ≡ 0) × None 3 show_tests
   show_done = (show_exact rule t x y).done
 
   -- the leaf that holds the point: told by its block, its lines, and where they stand
-  show_block : (d : ℕ) → (show_of rule t x y).told.answer ≡ Done d
-      → (k : Block) × ((show_of rule t x y).told ≡ record { answer = Done 0; side = k.side; west = record { 0 = k.west }; south = record { 0 = k.south } }) × In k (grid_point x y)
+  show_block : (d : ℕ) → (show_of rule t x y).told.answer ≡ Ok d
+      → (k : Block) × ((show_of rule t x y).told ≡ record { answer = Ok 0; side = k.side; west = record { 0 = k.west }; south = record { 0 = k.south } }) × In k (grid_point x y)
       × LeafAt whole_map (tree rule (live_lines t.lines)) k (show_of rule t x y).part × ListedFrom whole_map (tree rule (live_lines t.lines)) k (show_of rule t x y).first
   show_block d e = let l = (show_exact rule t x y).leaf d e in (l.0, l.1.tells, l.1.holds, l.1.is_leaf, l.1.from)
 
@@ -191,28 +191,28 @@ module _ (rule : Rule) (t : Tables) (w : Window) (list : List ℕ) where
   abbrev window_tests : List (Type 0)
   window_tests = WrongLengths t ∷ Unsound rule t ∷ WrongWindow w ∷ TooShort t.lines w list ∷ []
 
-  window_lengths : ((window_of rule t w list).answer ≡ Lengths) ↔ WrongLengths t
+  window_lengths : ((window_of rule t w list).answer ≡ Err Lengths) ↔ WrongLengths t
   window_lengths = (window_exact rule t w list).lengths
 
-  window_damaged : ((window_of rule t w list).answer ≡ Damaged) ↔ Unsound rule t × None 1 window_tests
+  window_damaged : ((window_of rule t w list).answer ≡ Err Damaged) ↔ Unsound rule t × None 1 window_tests
   window_damaged = (window_exact rule t w list).damaged
 
-  window_bad : ((window_of rule t w list).answer ≡ BadWindow) ↔ WrongWindow w × None 2 window_tests
+  window_bad : ((window_of rule t w list).answer ≡ Err BadWindow) ↔ WrongWindow w × None 2 window_tests
   window_bad = (window_exact rule t w list).bad_window
 
-  window_short : ((window_of rule t w list).answer ≡ ListShort) ↔ TooShort t.lines w list × None 3 window_tests
+  window_short : ((window_of rule t w list).answer ≡ Err ListShort) ↔ TooShort t.lines w list × None 3 window_tests
   window_short = (window_exact rule t w list).list_short
 
-  window_done : (n : ℕ) → ((window_of rule t w list).answer ≡ Done n) ↔ ((slots : List ℕ) × InWindow t.lines w slots × (n ≡ length slots)) × None 4 window_tests
+  window_done : (n : ℕ) → ((window_of rule t w list).answer ≡ Ok n) ↔ ((slots : List ℕ) × InWindow t.lines w slots × (n ≡ length slots)) × None 4 window_tests
   window_done = (window_exact rule t w list).done
 
   -- the first n entries: the slots of the live lines with a point in the closed rectangle, each once, rising
-  window_shows : (n : ℕ) → (window_of rule t w list).answer ≡ Done n
+  window_shows : (n : ℕ) → (window_of rule t w list).answer ≡ Ok n
       → Rising (take n (window_of rule t w list).slots) × ((s : ℕ) → Memᴰ s (take n (window_of rule t w list).slots) ↔ (Live t.lines s × MeetsWindow w (line_at t.lines s)))
   window_shows n e = let f = ((window_exact rule t w list).shows n e).front in (f.rising, f.exactly)
 
   -- the later ones stay, and no entry is added
-  window_later : (n : ℕ) → (window_of rule t w list).answer ≡ Done n
+  window_later : (n : ℕ) → (window_of rule t w list).answer ≡ Ok n
       → (length (window_of rule t w list).slots ≡ length list) × ((i : ℕ) → n ≤ i → get_or (window_of rule t w list).slots i 0 ≡ get_or list i 0)
   window_later n e = let f = (window_exact rule t w list).shows n e in (f.long, f.later)
 
@@ -221,13 +221,13 @@ module _ (rule : Rule) (t : Tables) (w : Window) (list : List ℕ) where
 
 -- what is accepted leaves a sound map
 module _ (rule : Rule) (fair : Fair rule) (t : Tables) where
-  start_sound : {d : ℕ} → (start_of t).answer ≡ Done d → SoundMap rule (start_of t).after
+  start_sound : {d : ℕ} → (start_of t).answer ≡ Ok d → SoundMap rule (start_of t).after
   start_sound = start_accepted rule fair t
 
-  insert_sound : (g : Given) {h : ℕ} → (insert_of rule t g).answer ≡ Done h → SoundMap rule (insert_of rule t g).after
+  insert_sound : (g : Given) {h : ℕ} → (insert_of rule t g).answer ≡ Ok h → SoundMap rule (insert_of rule t g).after
   insert_sound = insert_accepted rule fair t
 
-  delete_sound : (h : ℕ) {d : ℕ} → (delete_of rule t h).answer ≡ Done d → SoundMap rule (delete_of rule t h).after
+  delete_sound : (h : ℕ) {d : ℕ} → (delete_of rule t h).answer ≡ Ok d → SoundMap rule (delete_of rule t h).after
   delete_sound = delete_accepted rule fair t
 
 -- ---- Demand 2
@@ -302,7 +302,7 @@ one_leaf_for_two rule lines ok x y mx my p ox oy = let s = share_a_leaf rule lin
 by_leaves : (rule : Rule) (lines : List ℕ) → every (slot_sound lines) (slots_of lines) ≡ true → LeafApart lines (tree rule (live_lines lines)) ↔ (none_conflict lines ≡ true)
 by_leaves = leaves_exact
 
-the_tree_remains : (rule : Rule) (t : Tables) (h : ℕ) → (delete_of rule t h).answer ≡ Done 0
+the_tree_remains : (rule : Rule) (t : Tables) (h : ℕ) → (delete_of rule t h).answer ≡ Ok 0
     → ((delete_of rule t h).after.nodes ≡ padded (length t.nodes) (nodes_of (tree rule (those (λ l. not (eqb l.slot (h / 65536))) (live_lines t.lines)))))
     × ((delete_of rule t h).after.listings ≡ padded (length t.listings) (listings_of (tree rule (those (λ l. not (eqb l.slot (h / 65536))) (live_lines t.lines)))))
 the_tree_remains rule t h e = let r = delete_tree rule t h e in (r.nodes, r.listings)
@@ -345,7 +345,7 @@ module _ (rule : Rule) (fair : Fair rule) (t : Tables) (fit : lengths_fit t ≡ 
   never_twice : Distinct (given_by rule (cleared t) cs)
   never_twice = (demand_3 rule fair t fit cs).distinct
 
-  refused_after : (h : ℕ) → (delete_of rule reached h).answer ≡ Done 0 → (ds : List Call) → (delete_of rule (after_all rule (delete_of rule reached h).after ds) h).answer ≡ UnknownHandle
+  refused_after : (h : ℕ) → (delete_of rule reached h).answer ≡ Ok 0 → (ds : List Call) → (delete_of rule (after_all rule (delete_of rule reached h).after ds) h).answer ≡ Err UnknownHandle
   refused_after = (demand_3 rule fair t fit cs).refused
 
   live_exactly : (i : Held) → Memᴰ i (live_held reached.lines) ↔ Stands i (heard rule (cleared t) cs)
@@ -358,8 +358,8 @@ module _ (rule : Rule) (fair : Fair rule) (t : Tables) (fit : lengths_fit t ≡ 
       → Alike reached.lines (after_all rule (cleared u) ds).lines (tree rule (live_lines reached.lines)) (tree rule (live_lines (after_all rule (cleared u) ds).lines))
   fixed_by_lines = (demand_3 rule fair t fit cs).fixed
 
-  restored_at_once : (g : Given) (h : ℕ) → (insert_of rule reached g).answer ≡ Done h
-      → ((delete_of rule (insert_of rule reached g).after h).answer ≡ Done 0)
+  restored_at_once : (g : Given) (h : ℕ) → (insert_of rule reached g).answer ≡ Ok h
+      → ((delete_of rule (insert_of rule reached g).after h).answer ≡ Ok 0)
       × ((delete_of rule (insert_of rule reached g).after h).after.nodes ≡ reached.nodes) × ((delete_of rule (insert_of rule reached g).after h).after.listings ≡ reached.listings)
   restored_at_once g h e = let r = (demand_3 rule fair t fit cs).restored g h e in (r.done, r.nodes, r.listings)
 

@@ -1,11 +1,10 @@
 -- Deleting gives the tree of what remains.
-use Rattle.std.specs.Prelude.{◌≡◌, ◌⊎◌, true, false, ℕ, ◌+◌, ◌*◌, ◌/◌, ◌≤◌, ◌<◌, eqb, length}
+use Rattle.std.specs.Prelude.{◌≡◌, ◌⊎◌, true, false, ℕ, ◌+◌, ◌*◌, ◌/◌, ◌≤◌, ◌<◌, eqb, length, Ok}
 use Rattle.std.proofs.Math.Path.{refl, ap}
 use Rattle.std.proofs.Common.{sym, ◌∙◌, subst, inl, inr, arith, eq-eqb, ne_eqb}
 use Rattle.std.proofs.Math.Bool.{Bool, not}
 use mathlib.Core.List.{List, [], ◌∷◌, map}
-use Rattle.definitions.specs.declared.Answer.{Answer}
-use Rattle.definitions.specs.declared.Answer.TheVariants.{Done}
+use Rattle.definitions.specs.Answer.{Answer}
 use Rattle.algebra.specs.Lists.{those_yes, those_no}
 use Rattle.algebra.specs.Words.{those, up_from, padded}
 use Rattle.definitions.specs.Calls.{Reply, refusal_of, delete_of, rebuilt, freed}
@@ -58,10 +57,10 @@ pub record Remains (rule : Rule) (t u : Tables) (s : ℕ) : Type 0 where
   pub nodes : u.nodes ≡ padded (length t.nodes) (nodes_of (tree rule (those (λ l. not (eqb l.slot s)) (live_lines t.lines))))
   pub listings : u.listings ≡ padded (length t.listings) (listings_of (tree rule (those (λ l. not (eqb l.slot s)) (live_lines t.lines))))
 
-pub delete_tree : (rule : Rule) (t : Tables) (h : ℕ) → (delete_of rule t h).answer ≡ Done 0 → Remains rule t (delete_of rule t h).after (h / 65536)
+pub delete_tree : (rule : Rule) (t : Tables) (h : ℕ) → (delete_of rule t h).answer ≡ Ok 0 → Remains rule t (delete_of rule t h).after (h / 65536)
 delete_tree rule t h e = go (delete_is rule t h) e
   where
-    go : {r : Reply} → Deleted rule t h r → r.answer ≡ Done 0 → Remains rule t r.after (h / 65536)
+    go : {r : Reply} → Deleted rule t h r → r.answer ≡ Ok 0 → Remains rule t r.after (h / 65536)
     go (d_refused r q) p = absurd (nope (subst (λ (a : Answer). 0 < refusal_of a) p q))
       where
         nope : 0 < 0 → ⊥

@@ -1,6 +1,5 @@
 -- An accepted insert followed at once by its delete restores both tree tables.
-use Rattle.definitions.specs.declared.Answer.{Answer}
-use Rattle.definitions.specs.declared.Answer.TheVariants.{Done}
+use Rattle.definitions.specs.Answer.{Answer}
 use Rattle.definitions.specs.declared.Given.{Given}
 use Rattle.algebra.specs.Lists.{those_yes, those_no, padded_length}
 use Rattle.algebra.specs.Tests.{no_path, and_l, and_r, and_b}
@@ -15,7 +14,7 @@ use Rattle.history.specs.Demand.{Restored}
 use Rattle.history.proofs.Held.{free_dead}
 use Rattle.history.proofs.Kept.{Passed, Outcome, kept, took, insert_outcome, insert_sound}
 use Rattle.history.proofs.Ledger.{Free, free_first}
-use Rattle.std.specs.Prelude.{◌≡◌, ◌⊎◌, Bool, true, false, List, [], ◌∷◌, map, ℕ, ◌+◌, ◌*◌, ◌/◌, ◌%◌, ◌≤◌, ◌<◌, leb}
+use Rattle.std.specs.Prelude.{◌≡◌, ◌⊎◌, Bool, true, false, List, [], ◌∷◌, map, ℕ, ◌+◌, ◌*◌, ◌/◌, ◌%◌, ◌≤◌, ◌<◌, leb, Ok}
 use Rattle.std.proofs.Math.Path.{refl}
 use Rattle.std.proofs.Common.{sym, ◌∙◌, ap, subst, inl, inr, arith, leb-true, lt-ltb, eq-eqb}
 use Rattle.std.proofs.Math.ListN.{length}
@@ -49,7 +48,7 @@ live_same a b e f g = rw e (lines_same a b f g (up_from 0 (length b / 8)))
 module _ (rule : Rule) (fair : Fair rule) where
   -- delete, where all its tests pass
   pub delete_done : (t : Tables) (h : ℕ) → lengths_fit t ≡ true → sound rule t ≡ true → known t.lines h ≡ true
-      → delete_of rule t h ≡ reply (Done 0) (rebuilt rule t (freed t.lines (h / 65536)))
+      → delete_of rule t h ≡ reply (Ok 0) (rebuilt rule t (freed t.lines (h / 65536)))
   unfolding delete_of
   delete_done t h e f g = rw (e, f, g) refl
 
@@ -127,10 +126,10 @@ module _ (rule : Rule) (fair : Fair rule) where
         sd = sound→ rule t p.ok
 
   -- An accepted insert followed at once by the delete of its handle is accepted, and both tree tables are as before
-  pub restores : (t : Tables) (g : Given) (h : ℕ) → (insert_of rule t g).answer ≡ Done h → Restored t (delete_of rule (insert_of rule t g).after h)
+  pub restores : (t : Tables) (g : Given) (h : ℕ) → (insert_of rule t g).answer ≡ Ok h → Restored t (delete_of rule (insert_of rule t g).after h)
   restores t g h e = go (insert_outcome rule fair t g) e (insert_sound rule fair t g)
     where
-      go : {r : Reply} → Outcome rule fair t g r → r.answer ≡ Done h → (Sound rule t → Sound rule r.after) → Restored t (delete_of rule r.after h)
+      go : {r : Reply} → Outcome rule fair t g r → r.answer ≡ Ok h → (Sound rule t → Sound rule r.after) → Restored t (delete_of rule r.after h)
       go (kept r k) q v = absurd (nope (subst (λ (a : Answer). 0 < refusal_of a) q k))
         where
           nope : 0 < 0 → ⊥

@@ -1,5 +1,5 @@
 -- No room, in the paper's words: over a fair rule the tree of the live lines and the new one has one size, whatever slot the line takes.
-use Rattle.std.specs.Prelude.{◌≡◌, refl, ◌⊎◌, ◌↔◌, true, false, ℕ, ◌+◌, ◌*◌, ◌/◌, ◌≤◌, length}
+use Rattle.std.specs.Prelude.{◌≡◌, refl, ◌⊎◌, ◌↔◌, true, false, ℕ, ◌+◌, ◌*◌, ◌/◌, ◌≤◌, length, Err}
 use Rattle.std.proofs.Math.Path.{sym, ap, subst}
 use Rattle.std.proofs.Common.{◌∙◌, arith}
 use Rattle.std.proofs.Math.Logic.{inl, inr}
@@ -9,7 +9,7 @@ use Rattle.std.proofs.lemmas.Bool.{not-false}
 use Rattle.algebra.specs.Lists.{in_those, of_those, to_up_from}
 use Rattle.algebra.specs.Tests.{no_path, false_by}
 use Rattle.algebra.specs.Words.{those}
-use Rattle.definitions.specs.declared.Answer.TheVariants.{NoRoom}
+use Rattle.definitions.specs.declared.Refusal.TheVariants.{NoRoom}
 use Rattle.definitions.specs.declared.Given.{Given}
 use Rattle.definitions.specs.Calls.{given_line, all_on_grid, no_length, conflicting, free_slots, placed, insert_of}
 use Rattle.definitions.specs.Shape.{Line, conflict}
@@ -136,7 +136,7 @@ module _ (rule : Rule) (fair : Fair rule) (t : Tables) (g : Given) where
     slot_left (s ∷ more) e = (s, first_free rule t g s more e)
 
   -- 7: the tree of the live lines and the new one needs more node or listing entries than lent
-  pub no_room_exact : ((insert_of rule t g).answer ≡ NoRoom) ↔ NeedsMore rule t (given_line g ∷ live_lines t.lines) × None 6 (insert_tests rule t g)
+  pub no_room_exact : ((insert_of rule t g).answer ≡ Err NoRoom) ↔ NeedsMore rule t (given_line g ∷ live_lines t.lines) × None 6 (insert_tests rule t g)
   no_room_exact = (
     λ e. let h = (insert_exact rule t g).no_room.0 e in ((same_room h.1 h.0.slot h.0.takes.holds).0 h.0.more, h.1),
     λ h. let u = slot_left h.1 (free_slots t.lines) refl in

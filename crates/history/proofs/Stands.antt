@@ -1,5 +1,5 @@
 -- The live lines are exactly those inserted and not since deleted.
-use Rattle.definitions.specs.declared.Answer.{Answer}
+use Rattle.definitions.specs.Answer.{Answer}
 use Rattle.definitions.specs.declared.Given.{Given}
 use Rattle.algebra.specs.Lists.{in_those, of_those}
 use Rattle.algebra.specs.Tests.{no_path}

@@ -1,5 +1,5 @@
 -- Window answers by the refusal table: its tests mean the table's conditions, and what it leaves is what the table says.
-use Rattle.std.specs.Prelude.{◌≡◌, ◌↔◌, Bool, true, List, [], ◌∷◌, ◌++◌, ℕ, ◌+◌, ◌-◌, ◌≤◌, leb, ltb, length, get_or}
+use Rattle.std.specs.Prelude.{◌≡◌, ◌↔◌, Bool, true, List, [], ◌∷◌, ◌++◌, ℕ, ◌+◌, ◌-◌, ◌≤◌, leb, ltb, length, get_or, Ok, Err}
 use Rattle.std.proofs.Math.Path.{refl, ap}
 use Rattle.std.proofs.Common.{sym, ◌∙◌, subst, inl, inr, arith, length-append, length-drop, get_or-append-add, get_or-drop}
 use Rattle.std.proofs.Math.Bool.{not}
@@ -7,7 +7,7 @@ use Rattle.std.proofs.Math.ListN.{drop}
 use Rattle.std.proofs.Math.Seq.{take-append_seam}
 use borrow.Author.Tests.{leb-true, leb-false, ltb-true, lt-ltb, not-true}
 use Rattle.algebra.specs.Tests.{false_by}
-use Rattle.definitions.specs.declared.Answer.TheVariants.{Done, Lengths, Damaged, BadWindow, ListShort}
+use Rattle.definitions.specs.declared.Refusal.TheVariants.{Lengths, Damaged, BadWindow, ListShort}
 use Rattle.definitions.specs.declared.Window.{Window}
 use Rattle.definitions.specs.Meaning.{InWindow}
 use Rattle.definitions.specs.Tables.{Tables, lengths_fit, on_grid, sound}
@@ -84,33 +84,33 @@ module _ (rule : Rule) (t : Tables) (w : Window) (list : List ℕ) where
   abbrev Viewed : Windowed → Type 0
   Viewed =
       Came (λ (r : Windowed). r.answer) (λ (r : Windowed). r.slots ≡ list) (λ (r : Windowed). (n : ℕ) → Number t.lines w n → FrontShows t.lines w n list r.slots)
-      ((λ d. Lengths) ∷ (λ d. Damaged) ∷ (λ d. BadWindow) ∷ (λ d. ListShort) ∷ []) (window_tests rule t w list) (Number t.lines w) (λ d. ⊥)
+      ((λ d. Err Lengths) ∷ (λ d. Err Damaged) ∷ (λ d. Err BadWindow) ∷ (λ d. Err ListShort) ∷ []) (window_tests rule t w list) (Number t.lines w) (λ d. ⊥)
 
   came_list : ¬ WrongLengths t → ¬ Unsound rule t → ¬ WrongWindow w → Viewed (listed_in (slots_in t.lines (area_in w)) list)
   unfolding listed_in
   came_list n1 n2 n3 =
       let slots = slots_in t.lines (area_in w) in
-      tested Viewed (ltb (length list) (length slots)) (short_means t.lines w n3 list) (λ c. gives (windowed ListShort list) refl (c, (n1, (n2, (n3, tt)))) refl)
-      (λ n4. gives (windowed (Done (length slots)) (slots ++ drop (length slots) list)) refl (tt, (n1, (n2, (n3, (n4, tt))))) (number t.lines w n3, shows_number t.lines w slots list (in_window t.lines w n3) (not_more (λ k. n4 (length slots, number t.lines w n3, k)))))
+      tested Viewed (ltb (length list) (length slots)) (short_means t.lines w n3 list) (λ c. gives (windowed (Err ListShort) list) refl (c, (n1, (n2, (n3, tt)))) refl)
+      (λ n4. gives (windowed (Ok (length slots)) (slots ++ drop (length slots) list)) refl (tt, (n1, (n2, (n3, (n4, tt))))) (number t.lines w n3, shows_number t.lines w slots list (in_window t.lines w n3) (not_more (λ k. n4 (length slots, number t.lines w n3, k)))))
 
   came_window : Viewed (window_of rule t w list)
   unfolding window_of
   came_window =
-      tested Viewed (not (lengths_fit t)) (wrong_means t) (λ c. gives (windowed Lengths list) refl (c, tt) refl)
-      (λ n1. tested Viewed (not (sound rule t)) (unsound_means rule t) (λ c. gives (windowed Damaged list) refl (c, (n1, tt)) refl)
-      (λ n2. tested Viewed (not (window_fits w)) (window_means w) (λ c. gives (windowed BadWindow list) refl (c, (n1, (n2, tt))) refl)
+      tested Viewed (not (lengths_fit t)) (wrong_means t) (λ c. gives (windowed (Err Lengths) list) refl (c, tt) refl)
+      (λ n1. tested Viewed (not (sound rule t)) (unsound_means rule t) (λ c. gives (windowed (Err Damaged) list) refl (c, (n1, tt)) refl)
+      (λ n2. tested Viewed (not (window_fits w)) (window_means w) (λ c. gives (windowed (Err BadWindow) list) refl (c, (n1, (n2, tt))) refl)
       (λ n3. came_list n1 n2 n3)))
 
-  done : (n : ℕ) → ((window_of rule t w list).answer ≡ Done n) ↔ Number t.lines w n × None 4 (window_tests rule t w list)
-  done = detailed came_window Done 0 (Number t.lines w) (λ d. refl) (λ d. refl) (λ d a. a.0) (number_only t.lines w) (λ d a. tt)
+  done : (n : ℕ) → ((window_of rule t w list).answer ≡ Ok n) ↔ Number t.lines w n × None 4 (window_tests rule t w list)
+  done = detailed came_window Ok 0 (Number t.lines w) (λ d. refl) (λ d. refl) (λ d a. a.0) (number_only t.lines w) (λ d a. tt)
 
   pub window_exact : WindowExact rule t w list
   window_exact =
       record {
-        lengths = alone (plain came_window Lengths (λ d. refl));
-        damaged = plain came_window Damaged (λ d. refl);
-        bad_window = plain came_window BadWindow (λ d. refl);
-        list_short = plain came_window ListShort (λ d. refl);
+        lengths = alone (plain came_window (Err Lengths) (λ d. refl));
+        damaged = plain came_window (Err Damaged) (λ d. refl);
+        bad_window = plain came_window (Err BadWindow) (λ d. refl);
+        list_short = plain came_window (Err ListShort) (λ d. refl);
         done = done;
         shows = λ n e. made came_window n e n ((done n).0 e).0;
         kept = kept came_window;

@@ -1,8 +1,8 @@
 -- Demand 3 in the paper's words: what the calls and their answers say, what the tables show, and the demand as one record.
-use Rattle.std.specs.Prelude.{◌≡◌, ◌↔◌, true, ℕ, ◌+◌, ◌*◌, eqb, if◌then◌else◌}
+use Rattle.std.specs.Prelude.{◌≡◌, ◌↔◌, true, ℕ, ◌+◌, ◌*◌, eqb, if◌then◌else◌, Ok, Err}
 use mathlib.Core.List.{List, [], ◌∷◌, ◌++◌, map, Memᴰ}
-use Rattle.definitions.specs.declared.Answer.{Answer}
-use Rattle.definitions.specs.declared.Answer.TheVariants.{Done, UnknownHandle}
+use Rattle.definitions.specs.Answer.{Answer}
+use Rattle.definitions.specs.declared.Refusal.TheVariants.{UnknownHandle}
 use Rattle.definitions.specs.declared.Given.{Given}
 use Rattle.definitions.specs.Tree.{Rule, Tree, leaf, divided, tree}
 use Rattle.definitions.specs.Tables.{Tables, lengths_fit, generation, x1, y1, x2, y2, left_label, right_label, live_slots, live_lines, sound}
@@ -95,7 +95,7 @@ pub data Alike (a b : List ℕ) : Tree → Tree → Type 0 where
 
 -- a delete that is done and leaves both tree tables as they were in t
 pub record Restored (t : Tables) (r : Reply) : Type 0 where
-  pub done : r.answer ≡ Done 0
+  pub done : r.answer ≡ Ok 0
   pub nodes : r.after.nodes ≡ t.nodes
   pub listings : r.after.listings ≡ t.listings
 
@@ -110,7 +110,7 @@ module _ (rule : Rule) (t : Tables) (cs : List Call) where
     -- no two accepted inserts give the same number
     pub distinct : Distinct (given_by rule (cleared t) cs)
     -- a deleted number is refused ever after
-    pub refused : (h : ℕ) → (delete_of rule reached h).answer ≡ Done 0 → (ds : List Call) → (delete_of rule (after_all rule (delete_of rule reached h).after ds) h).answer ≡ UnknownHandle
+    pub refused : (h : ℕ) → (delete_of rule reached h).answer ≡ Ok 0 → (ds : List Call) → (delete_of rule (after_all rule (delete_of rule reached h).after ds) h).answer ≡ Err UnknownHandle
     -- the live lines are exactly those inserted and not since deleted
     pub live : (i : Held) → Memᴰ i (live_held reached.lines) ↔ Stands i (heard rule (cleared t) cs)
     -- the two tree tables are those of the live lines
@@ -119,4 +119,4 @@ module _ (rule : Rule) (t : Tables) (cs : List Call) where
     pub fixed : (u : Tables) → lengths_fit u ≡ true → (ds : List Call) → SameLines reached.lines (after_all rule (cleared u) ds).lines
         → Alike reached.lines (after_all rule (cleared u) ds).lines (tree rule (live_lines reached.lines)) (tree rule (live_lines (after_all rule (cleared u) ds).lines))
     -- an accepted insert followed at once by its delete restores both tree tables
-    pub restored : (g : Given) (h : ℕ) → (insert_of rule reached g).answer ≡ Done h → Restored reached (delete_of rule (insert_of rule reached g).after h)
+    pub restored : (g : Given) (h : ℕ) → (insert_of rule reached g).answer ≡ Ok h → Restored reached (delete_of rule (insert_of rule reached g).after h)

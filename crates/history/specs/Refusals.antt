@@ -1,7 +1,7 @@
 -- The refusal table, call by call: an answer is given exactly if its condition holds and that of no earlier test. `Exact` has the proofs.
-use Rattle.std.specs.Prelude.{◌≡◌, ◌⊎◌, ◌↔◌, List, [], ◌∷◌, ℕ, zero, suc, ◌+◌, ◌*◌, ◌/◌, ◌%◌, ◌≤◌, ◌<◌, length, take, get_or}
-use Rattle.definitions.specs.declared.Answer.{Answer}
-use Rattle.definitions.specs.declared.Answer.TheVariants.{Done, Lengths, Damaged, OffGrid, NoLength, Conflict, NoSlot, NoRoom, UnknownHandle, BadWindow, ListShort}
+use Rattle.std.specs.Prelude.{◌≡◌, ◌⊎◌, ◌↔◌, List, [], ◌∷◌, ℕ, zero, suc, ◌+◌, ◌*◌, ◌/◌, ◌%◌, ◌≤◌, ◌<◌, length, take, get_or, Ok, Err}
+use Rattle.definitions.specs.Answer.{Answer}
+use Rattle.definitions.specs.declared.Refusal.TheVariants.{Lengths, Damaged, OffGrid, NoLength, Conflict, NoSlot, NoRoom, UnknownHandle, BadWindow, ListShort}
 use Rattle.definitions.specs.declared.Given.{Given}
 use Rattle.definitions.specs.declared.Kind.{Kind}
 use Rattle.definitions.specs.declared.Window.{Window}
@@ -173,9 +173,9 @@ module _ (t : Tables) where
   started = (start_of t).answer
 
   pub record StartExact : Type 0 where
-    pub lengths : (started ≡ Lengths) ↔ WrongLengths t
-    pub done : (d : ℕ) → (started ≡ Done d) ↔ (d ≡ 0) × None 1 (WrongLengths t ∷ [])
-    pub all0 : (d : ℕ) → started ≡ Done d → All0 t (start_of t).after
+    pub lengths : (started ≡ Err Lengths) ↔ WrongLengths t
+    pub done : (d : ℕ) → (started ≡ Ok d) ↔ (d ≡ 0) × None 1 (WrongLengths t ∷ [])
+    pub all0 : (d : ℕ) → started ≡ Ok d → All0 t (start_of t).after
     pub kept : 0 < refusal_of started → (start_of t).after ≡ t
 
 module _ (rule : Rule) (t : Tables) (g : Given) where
@@ -186,15 +186,15 @@ module _ (rule : Rule) (t : Tables) (g : Given) where
   inserted = (insert_of rule t g).answer
 
   pub record InsertExact : Type 0 where
-    pub lengths : (inserted ≡ Lengths) ↔ WrongLengths t
-    pub damaged : (inserted ≡ Damaged) ↔ Unsound rule t × None 1 insert_tests
-    pub off_grid : (inserted ≡ OffGrid) ↔ AboveGrid g × None 2 insert_tests
-    pub no_length : (inserted ≡ NoLength) ↔ EndsEqual g × None 3 insert_tests
-    pub conflict : (d : ℕ) → (inserted ≡ Conflict d) ↔ Named t.lines g d × None 4 insert_tests
-    pub no_slot : (inserted ≡ NoSlot) ↔ AllTaken t.lines × None 5 insert_tests
-    pub no_room : (inserted ≡ NoRoom) ↔ TooLarge rule t g × None 6 insert_tests
-    pub done : (h : ℕ) → (inserted ≡ Done h) ↔ Handle t.lines h × None 7 insert_tests
-    pub put : (h s : ℕ) → inserted ≡ Done h → Lowest (Vacant t.lines) s → PutIn rule t g s (insert_of rule t g).after
+    pub lengths : (inserted ≡ Err Lengths) ↔ WrongLengths t
+    pub damaged : (inserted ≡ Err Damaged) ↔ Unsound rule t × None 1 insert_tests
+    pub off_grid : (inserted ≡ Err OffGrid) ↔ AboveGrid g × None 2 insert_tests
+    pub no_length : (inserted ≡ Err NoLength) ↔ EndsEqual g × None 3 insert_tests
+    pub conflict : (d : ℕ) → (inserted ≡ Err (Conflict d)) ↔ Named t.lines g d × None 4 insert_tests
+    pub no_slot : (inserted ≡ Err NoSlot) ↔ AllTaken t.lines × None 5 insert_tests
+    pub no_room : (inserted ≡ Err NoRoom) ↔ TooLarge rule t g × None 6 insert_tests
+    pub done : (h : ℕ) → (inserted ≡ Ok h) ↔ Handle t.lines h × None 7 insert_tests
+    pub put : (h s : ℕ) → inserted ≡ Ok h → Lowest (Vacant t.lines) s → PutIn rule t g s (insert_of rule t g).after
     pub kept : 0 < refusal_of inserted → (insert_of rule t g).after ≡ t
 
 module _ (rule : Rule) (t : Tables) (h : ℕ) where
@@ -205,12 +205,12 @@ module _ (rule : Rule) (t : Tables) (h : ℕ) where
   deleted = (delete_of rule t h).answer
 
   pub record DeleteExact : Type 0 where
-    pub lengths : (deleted ≡ Lengths) ↔ WrongLengths t
-    pub damaged : (deleted ≡ Damaged) ↔ Unsound rule t × None 1 delete_tests
-    pub unknown : (deleted ≡ UnknownHandle) ↔ Unknown t.lines h × None 2 delete_tests
-    pub done : (d : ℕ) → (deleted ≡ Done d) ↔ (d ≡ 0) × None 3 delete_tests
+    pub lengths : (deleted ≡ Err Lengths) ↔ WrongLengths t
+    pub damaged : (deleted ≡ Err Damaged) ↔ Unsound rule t × None 1 delete_tests
+    pub unknown : (deleted ≡ Err UnknownHandle) ↔ Unknown t.lines h × None 2 delete_tests
+    pub done : (d : ℕ) → (deleted ≡ Ok d) ↔ (d ≡ 0) × None 3 delete_tests
     -- over a fair rule, so that the smaller tree has room
-    pub emptied : Fair rule → (d : ℕ) → deleted ≡ Done d → TakenOut rule t (h / 65536) (delete_of rule t h).after
+    pub emptied : Fair rule → (d : ℕ) → deleted ≡ Ok d → TakenOut rule t (h / 65536) (delete_of rule t h).after
     pub kept : 0 < refusal_of deleted → (delete_of rule t h).after ≡ t
 
 module _ (rule : Rule) (t : Tables) (points answers : List ℕ) where
@@ -221,10 +221,10 @@ module _ (rule : Rule) (t : Tables) (points answers : List ℕ) where
   located = (locate_of rule t points answers).answer
 
   pub record LocateExact : Type 0 where
-    pub lengths : (located ≡ Lengths) ↔ WrongLists t points answers
-    pub damaged : (located ≡ Damaged) ↔ Unsound rule t × None 1 locate_tests
-    pub done : (d : ℕ) → (located ≡ Done d) ↔ (d ≡ 0) × None 2 locate_tests
-    pub answered : (d : ℕ) → located ≡ Done d → AnswersAll t.lines points answers (locate_of rule t points answers).answers
+    pub lengths : (located ≡ Err Lengths) ↔ WrongLists t points answers
+    pub damaged : (located ≡ Err Damaged) ↔ Unsound rule t × None 1 locate_tests
+    pub done : (d : ℕ) → (located ≡ Ok d) ↔ (d ≡ 0) × None 2 locate_tests
+    pub answered : (d : ℕ) → located ≡ Ok d → AnswersAll t.lines points answers (locate_of rule t points answers).answers
     pub kept : 0 < refusal_of located → (locate_of rule t points answers).answers ≡ answers
 
 -- the side and corner are 0, and the part has length 0, at the listing table's start
@@ -243,12 +243,12 @@ module _ (rule : Rule) (t : Tables) (x y : ℕ) where
   shown = (show_of rule t x y).told.answer
 
   pub record ShowExact : Type 0 where
-    pub lengths : (shown ≡ Lengths) ↔ WrongLengths t
-    pub damaged : (shown ≡ Damaged) ↔ Unsound rule t × None 1 show_tests
-    pub off_grid : (shown ≡ OffGrid) ↔ ((16383 < x) ⊎ (16383 < y)) × None 2 show_tests
-    pub done : (d : ℕ) → (shown ≡ Done d) ↔ (d ≡ 0) × None 3 show_tests
+    pub lengths : (shown ≡ Err Lengths) ↔ WrongLengths t
+    pub damaged : (shown ≡ Err Damaged) ↔ Unsound rule t × None 1 show_tests
+    pub off_grid : (shown ≡ Err OffGrid) ↔ ((16383 < x) ⊎ (16383 < y)) × None 2 show_tests
+    pub done : (d : ℕ) → (shown ≡ Ok d) ↔ (d ≡ 0) × None 3 show_tests
     -- the leaf that holds the point, and its part of the listing table
-    pub leaf : (d : ℕ) → shown ≡ Done d → (place : Block) × ShowsLeaf rule t x y place (show_of rule t x y)
+    pub leaf : (d : ℕ) → shown ≡ Ok d → (place : Block) × ShowsLeaf rule t x y place (show_of rule t x y)
     pub nothing : 0 < refusal_of shown → Nothing (show_of rule t x y)
 
 module _ (rule : Rule) (t : Tables) (w : Window) (list : List ℕ) where
@@ -259,10 +259,10 @@ module _ (rule : Rule) (t : Tables) (w : Window) (list : List ℕ) where
   viewed = (window_of rule t w list).answer
 
   pub record WindowExact : Type 0 where
-    pub lengths : (viewed ≡ Lengths) ↔ WrongLengths t
-    pub damaged : (viewed ≡ Damaged) ↔ Unsound rule t × None 1 window_tests
-    pub bad_window : (viewed ≡ BadWindow) ↔ WrongWindow w × None 2 window_tests
-    pub list_short : (viewed ≡ ListShort) ↔ TooShort t.lines w list × None 3 window_tests
-    pub done : (n : ℕ) → (viewed ≡ Done n) ↔ Number t.lines w n × None 4 window_tests
-    pub shows : (n : ℕ) → viewed ≡ Done n → FrontShows t.lines w n list (window_of rule t w list).slots
+    pub lengths : (viewed ≡ Err Lengths) ↔ WrongLengths t
+    pub damaged : (viewed ≡ Err Damaged) ↔ Unsound rule t × None 1 window_tests
+    pub bad_window : (viewed ≡ Err BadWindow) ↔ WrongWindow w × None 2 window_tests
+    pub list_short : (viewed ≡ Err ListShort) ↔ TooShort t.lines w list × None 3 window_tests
+    pub done : (n : ℕ) → (viewed ≡ Ok n) ↔ Number t.lines w n × None 4 window_tests
+    pub shows : (n : ℕ) → viewed ≡ Ok n → FrontShows t.lines w n list (window_of rule t w list).slots
     pub kept : 0 < refusal_of viewed → (window_of rule t w list).slots ≡ list

@@ -9,24 +9,27 @@ ghost use Rattle.definitions.specs.Window.{window_of};
 ghost use Rattle.tables.specs.Lent.{tables};
 ghost use Rattle.host.specs.Numbers.{Tells, Answers, Lists, version};
 
-use definitions::{Answer, Given, Window};
+use definitions::{Answer, Given, Refusal, Window};
+
+// What a refusal counts for in an answer's number; the detail is below it.
+const REFUSAL: u64 = 4294967296;
 
 // refusal x 4,294,967,296 + detail
-pub fn number(a: Answer) -> u64
-    ensures { result ≡ number_of a }
+pub fn number(answer: Answer) -> u64
+    ensures { result ≡ number_of answer }
 {
-    match a {
-        Answer::Done(d) => d as u64,
-        Answer::Lengths => 4294967296,
-        Answer::Damaged => 8589934592,
-        Answer::OffGrid => 12884901888,
-        Answer::NoLength => 17179869184,
-        Answer::Conflict(d) => 21474836480 + (d as u64),
-        Answer::NoSlot => 25769803776,
-        Answer::NoRoom => 30064771072,
-        Answer::UnknownHandle => 34359738368,
-        Answer::BadWindow => 38654705664,
-        Answer::ListShort => 42949672960,
+    match answer {
+        Ok(detail) => u64::from(detail),
+        Err(Refusal::Lengths) => REFUSAL,
+        Err(Refusal::Damaged) => 2 * REFUSAL,
+        Err(Refusal::OffGrid) => 3 * REFUSAL,
+        Err(Refusal::NoLength) => 4 * REFUSAL,
+        Err(Refusal::Conflict(detail)) => 5 * REFUSAL + u64::from(detail),
+        Err(Refusal::NoSlot) => 6 * REFUSAL,
+        Err(Refusal::NoRoom) => 7 * REFUSAL,
+        Err(Refusal::UnknownHandle) => 8 * REFUSAL,
+        Err(Refusal::BadWindow) => 9 * REFUSAL,
+        Err(Refusal::ListShort) => 10 * REFUSAL,
     }
 }
 

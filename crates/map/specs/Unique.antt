@@ -2,7 +2,7 @@
 use Rattle.std.specs.Prelude.{◌≡◌, List, ℕ}
 use Rattle.std.proofs.Common.{sym, ◌∙◌, ap}
 use Rattle.std.specs.Borrow.{Bor}
-use Rattle.definitions.specs.declared.Answer.{Answer}
+use Rattle.definitions.specs.Answer.{Answer}
 use Rattle.definitions.specs.declared.Shown.{Shown}
 use Rattle.definitions.specs.Calls.{Reply}
 use Rattle.definitions.specs.Lookup.{Located, Showing}

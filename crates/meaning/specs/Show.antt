@@ -1,12 +1,11 @@
 -- Show leaf: the leaf found holds the point and is a leaf of the tree, and the part is its list.
-use Rattle.std.specs.Prelude.{◌≡◌, Bool, true, false, ltb, take, drop}
+use Rattle.std.specs.Prelude.{◌≡◌, Bool, true, false, ltb, take, drop, Ok}
 use Rattle.std.proofs.Math.Path.{refl}
 use Rattle.std.proofs.Common.{◌∙◌, ap, arith, length-append, take_at, drop_at}
 use mathlib.Core.List.{List, ◌++◌, append_assoc}
 use Prim.Native.Nat.{ℕ, suc, ◌+◌, ◌/◌, ◌≤◌, ◌<◌}
 use Rattle.std.proofs.Math.ListN.{length}
 use borrow.Author.Tests.{ltb-true, ltb-false}
-use Rattle.definitions.specs.declared.Answer.TheVariants.{Done}
 use Rattle.definitions.specs.declared.Point.{Point}
 use Rattle.definitions.specs.Lookup.{Showing, Leaf, leaf_at}
 use Rattle.definitions.specs.Meaning.{In, LeafAt, here, in_nw, in_ne, in_sw, in_se, ListedFrom, at_once, from_nw, from_ne, from_sw, from_se}
@@ -155,7 +154,7 @@ listed_from p (divided a b c d) k first =
 
 -- Show leaf on a sound map: the block is that of the leaf that holds the point, and the part is its list, where it stands in the listing table
 pub record ShowsLeaf (rule : Rule) (t : Tables) (x y : ℕ) (place : Block) (r : Showing) : Type 0 where
-  pub tells : r.told ≡ record { answer = Done 0; side = place.side; west = record { 0 = place.west }; south = record { 0 = place.south } }
+  pub tells : r.told ≡ record { answer = Ok 0; side = place.side; west = record { 0 = place.west }; south = record { 0 = place.south } }
   pub holds : In place (grid_point x y)
   pub is_leaf : LeafAt whole_map (tree rule (live_lines t.lines)) place r.part
   pub from : ListedFrom whole_map (tree rule (live_lines t.lines)) place r.first

@@ -1,4 +1,5 @@
 -- The leaf that is shown, over plain lists.
+use Rattle.std.specs.Prelude.{Ok}
 use mathlib.Core.Path.{◌≡◌, sym, ap, ◌∙◌, subst}
 use mathlib.Core.Bool.{true, ◌&&◌}
 use mathlib.Core.List.{List}
@@ -16,7 +17,6 @@ use Rattle.tables.specs.Lent.{tables, Passed, lines_short, nodes_short, listings
 use Rattle.walk.specs.declared.Leaf.{Leaf}
 use Rattle.walk.specs.Index.{Standing, Indexed, Walkable, Searchable, LeafOver}
 use Rattle.walk.specs.Placing.{map_standing}
-use Rattle.showing.specs.declared.Asked.TheVariants.{Shows}
 use Rattle.showing.specs.Asking.{AskedIs}
 use Rattle.showing.specs.Steps.{show_0}
 
@@ -48,7 +48,7 @@ module _ {rule : Rule} {lines nodes listings : List ℕ} (w : Passed rule lines 
     pub y_low : y ≤ 16383
     y_low = leb-true y 16383 (both→ (on_grid x) (on_grid y) g).1
 
-    pub found : {f : Leaf} → ((t : Tree) → Standing nodes t 0 0 → LeafOver (grid_point x y) t f) → AskedIs rule (tables lines nodes listings) x y (Shows f)
+    pub found : {f : Leaf} → ((t : Tree) → Standing nodes t 0 0 → LeafOver (grid_point x y) t f) → AskedIs rule (tables lines nodes listings) x y (Ok f)
     unfolding leaf_over
     found {f} h =
         let u = h ours stands in

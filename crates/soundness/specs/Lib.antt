@@ -1,2 +1,3 @@
+pub mod Checked
 pub mod Comparing
 pub mod Soundness

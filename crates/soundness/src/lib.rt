@@ -6,9 +6,11 @@ ghost use Rattle.definitions.specs.Tree.{base_rule};
 ghost use Rattle.definitions.specs.Tables.{lengths_fit, sound};
 ghost use Rattle.tables.specs.Lent.{tables};
 ghost use Rattle.soundness.specs.Comparing.{Slotted, Comparing};
+ghost use Rattle.soundness.specs.Checked.{checked};
 
+use definitions::Refusal;
 use leaves::conflicts_in_leaves;
-use tables::{same, slots_sound};
+use tables::{lengths_fit, same, slots_sound};
 use tree::{Built, build};
 
 // The tree of the live lines is built anew and compared; then the lines of each leaf are tried against each other.
@@ -59,4 +61,17 @@ pub fn is_sound(lines: &[u16], nodes: &[u16], listings: &[u16]) -> bool
         return trees_sound(lines, nodes, listings);
     }
     false
+}
+
+// What every call but start asks of the lent tables first: refusal 1 or 2, or nothing.
+pub fn check(lines: &[u16], nodes: &[u16], listings: &[u16]) -> Result<(), Refusal>
+    ensures { result ≡ checked base_rule (tables lines.now nodes.now listings.now) }
+{
+    if !lengths_fit(lines, nodes, listings) {
+        return Err(Refusal::Lengths);
+    }
+    if !is_sound(lines, nodes, listings) {
+        return Err(Refusal::Damaged);
+    }
+    Ok(())
 }

@@ -6,7 +6,7 @@ use Rattle.std.proofs.lemmas.List.{length-replicate}
 use borrow.Author.Tests.{leb-true}
 use Rattle.algebra.specs.Lists.{take_zeros}
 use Rattle.algebra.specs.Tests.{and_l, and_r}
-use Rattle.definitions.specs.declared.Answer.{Answer}
+use Rattle.definitions.specs.Answer.{Answer}
 use Rattle.definitions.specs.Calls.{Reply}
 use Rattle.definitions.specs.Lookup.{Located}
 use Rattle.definitions.specs.Tables.{Tables, lengths_fit, sound}

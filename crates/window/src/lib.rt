@@ -14,7 +14,7 @@ ghost use Rattle.tables.specs.Lent.{Windows};
 ghost use Rattle.tables.specs.Rows.{entries_of};
 ghost use Rattle.window.specs.Means.{area_by, InMap, overlap_of, one_side_of, seen_at};
 
-use definitions::{Answer, Grid, Half, Point, Window};
+use definitions::{Answer, Grid, Half, Point, Refusal, Window};
 use geometry::{Line, on_grid, to_half, turn};
 use tables::{Row, copy, is_live, line_of_row, row_at};
 
@@ -124,8 +124,8 @@ pub fn list_window(lines: &[u16], w: Window, slots: &mut [u16]) -> Answer
     let mut found = [0u16; 1024];
     let n = seen_slots(lines, &mut found, area_in(w));
     if slots.len() < n {
-        return Answer::ListShort;
+        return Err(Refusal::ListShort);
     }
     copy(&found[..n], slots);
-    Answer::Done(n as u32)
+    Ok(n as u32)
 }

@@ -1,6 +1,7 @@
+use Rattle.std.specs.Prelude.{Err}
 use mathlib.Core.Path.{sym, ap, ◌∙◌}
 use Prim.Native.Nat.{ℕ}
-use Rattle.definitions.specs.declared.Answer.TheVariants.{Conflict}
+use Rattle.definitions.specs.declared.Refusal.TheVariants.{Conflict}
 use Rattle.definitions.specs.Calls.{reply}
 use Rattle.definitions.specs.Tree.{base_rule}
 use Rattle.tables.specs.Lent.{tables}
@@ -26,7 +27,7 @@ conflict_detail-requires c =
 pub returns-in-At : goal.returns-in-At
 returns-in-At c =
     let f = first_at _ (sym c.first_conflict.ensures ∙ c.in-At.is) in
-    ap (λ (d : ℕ). reply (Conflict d) (tables c.args.lines.now c.args.nodes.now c.args.listings.now)) c.conflict_detail.ensures
+    ap (λ (d : ℕ). reply (Err (Conflict d)) (tables c.args.lines.now c.args.nodes.now c.args.listings.now)) c.conflict_detail.ensures
     ∙ sym (insert_5 base_rule _ _ c.requires.fit c.requires.ok (sym c.all_on_grid.ensures ∙ c.if-not-all_on_grid.false) (sym c.no_length.ensures ∙ c.if-no_length.false) _ f.0 f.1)
 
 pub returns-in_default-free_slot : goal.returns-in_default-free_slot

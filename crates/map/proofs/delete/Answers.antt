@@ -1,24 +1,22 @@
 use mathlib.Core.Path.{sym, ◌∙◌}
+use Rattle.std.proofs.lemmas.Result.{err_from_is_err_and}
 use Rattle.definitions.specs.Tree.{base_rule}
-use Rattle.map.specs.Steps.{delete_1, delete_2, delete_8}
 use Rattle.changes.specs.Changing.{to_take}
+use Rattle.soundness.specs.Checked.{check_says, check_passes}
+use Rattle.map.specs.Steps.{delete_8, delete_refused}
 use Rattle.map.proofs.Ends.{deleted}
 use Rattle.map.proofs.delete.Goals as goal
 
-pub returns-then-not-lengths_fit : goal.returns-then-not-lengths_fit
-returns-then-not-lengths_fit c = sym (delete_1 base_rule _ _ (sym c.lengths_fit.ensures ∙ c.if-not-lengths_fit.true))
-
-pub is_sound-requires : goal.is_sound-requires
-is_sound-requires c = sym c.lengths_fit.ensures ∙ c.if-not-lengths_fit.false
-
-pub returns-then-not-is_sound : goal.returns-then-not-is_sound
-returns-then-not-is_sound c = sym (delete_2 base_rule _ _ (sym c.lengths_fit.ensures ∙ c.if-not-lengths_fit.false) (sym c.is_sound.ensures ∙ c.if-not-is_sound.true))
+pub returns-in_err-check : goal.returns-in_err-check
+returns-in_err-check c =
+    let p = err_from_is_err_and c.from_residual.result c.from_residual.ensures.1 in
+    rw (p.1, p.2) (sym (delete_refused base_rule _ _ (check_says base_rule _ c.in_err-check.ensures)))
 
 pub returns-then-not-known : goal.returns-then-not-known
-returns-then-not-known c = sym (delete_8 base_rule _ _ (sym c.lengths_fit.ensures ∙ c.if-not-lengths_fit.false) (sym c.is_sound.ensures ∙ c.if-not-is_sound.false) (sym c.known.ensures ∙ c.if-not-known.true))
+returns-then-not-known c = let w = check_passes base_rule c.in_ok-check.ensures in sym (delete_8 base_rule _ _ w.fit w.ok (sym c.known.ensures ∙ c.if-not-known.true))
 
 pub take_line-requires : goal.take_line-requires
-take_line-requires c = to_take c.args.handle (record { fit = sym c.lengths_fit.ensures ∙ c.if-not-lengths_fit.false; ok = sym c.is_sound.ensures ∙ c.if-not-is_sound.false }) (sym c.known.ensures ∙ c.if-not-known.false) c.slot_of.ensures
+take_line-requires c = to_take c.args.handle (check_passes base_rule c.in_ok-check.ensures) (sym c.known.ensures ∙ c.if-not-known.false) c.slot_of.ensures
 
 pub returns : goal.returns
-returns c = deleted c.args.handle (record { fit = sym c.lengths_fit.ensures ∙ c.if-not-lengths_fit.false; ok = sym c.is_sound.ensures ∙ c.if-not-is_sound.false }) (sym c.known.ensures ∙ c.if-not-known.false) c.slot_of.ensures c.take_line.ensures
+returns c = deleted c.args.handle (check_passes base_rule c.in_ok-check.ensures) (sym c.known.ensures ∙ c.if-not-known.false) c.slot_of.ensures c.take_line.ensures
