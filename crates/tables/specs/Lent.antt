@@ -12,9 +12,14 @@ use Rattle.definitions.specs.Lookup.{Located}
 use Rattle.definitions.specs.Tables.{Tables, lengths_fit, sound}
 use Rattle.definitions.specs.Tree.{Rule}
 use Rattle.definitions.specs.Window.{Windowed}
+use Rattle.tables.specs.declared.Lent.{Lent}
 
 abbrev pub tables : List ℕ → List ℕ → List ℕ → Tables
 tables lines nodes listings = record { lines = lines; nodes = nodes; listings = listings }
+
+-- those that a call is lent to read
+abbrev pub read : Lent → Tables
+read t = tables t.lines.now t.nodes.now t.listings.now
 
 -- the answer and every entry of the three tables afterwards are the reply's
 abbrev pub Replies : Answer → List ℕ → List ℕ → List ℕ → Reply → Type 0

@@ -25,6 +25,14 @@ pub struct Place {
     pub listing: usize,
 }
 
+// The three lent tables, to be read.
+#[derive(Clone, Copy)]
+pub struct Lent<'a> {
+    pub lines: &'a [u16],
+    pub nodes: &'a [u16],
+    pub listings: &'a [u16],
+}
+
 pub fn lengths_fit(lines: &[u16], nodes: &[u16], listings: &[u16]) -> bool
     ensures { result ≡ lengths_fit (record { lines = lines.entry.now; nodes = nodes.now; listings = listings.now }) }
 {
