@@ -1,116 +1,105 @@
 // The paper's own cases, P1 to P11 and the one that is only run.
 use std::io;
-use steps::bench::{
-    Bench, add, case, cleared, labelled, lent, listings_part, look, nodes_part, remove, set_line,
-    show, start, tree,
-};
-use steps::tools::end;
+use steps::case::Case;
 
 fn p1(rt: &impl Print) -> io::Result<()> {
-    let b = lent(rt, b"P1 fresh map", 32, 1, 0)?;
-    let b = start(rt, b)?;
-    show(rt, b, 0, 0)?;
-    nodes_part(rt, b, 0, 1)?;
-    end(rt)
+    let mut case = Case::lent(rt, "P1 fresh map", 32, 1, 0)?;
+    case.start()?;
+    case.show(0, 0)?;
+    case.part(&case.nodes, 0..1)?;
+    case.end()
 }
 
 fn p2(rt: &impl Print) -> io::Result<()> {
-    let b = lent(rt, b"P2 from corner to corner", 32, 16384, 16384)?;
-    let b = add(rt, b, 0, 0, 16383, 16383)?;
-    tree(rt, b, 5, 4)?;
-    end(rt)
+    let mut case = Case::lent(rt, "P2 from corner to corner", 32, 16384, 16384)?;
+    case.add([0, 0, 16383, 16383])?;
+    case.tree(5, 4)?;
+    case.end()
 }
 
 fn p3(rt: &impl Print) -> io::Result<()> {
-    let b = lent(rt, b"P3 along the south", 32, 16384, 16384)?;
-    let b = add(rt, b, 0, 0, 16383, 0)?;
-    tree(rt, b, 5, 2)?;
-    end(rt)
+    let mut case = Case::lent(rt, "P3 along the south", 32, 16384, 16384)?;
+    case.add([0, 0, 16383, 0])?;
+    case.tree(5, 2)?;
+    case.end()
 }
 
 fn p4(rt: &impl Print) -> io::Result<()> {
-    let b = lent(rt, b"P4 57 nodes and 2 listings", 32, 57, 2)?;
-    let b = add(rt, b, 0, 0, 0, 1)?;
-    nodes_part(rt, b, 36, 44)?;
-    listings_part(rt, b, 0, 2)?;
-    end(rt)
+    let mut case = Case::lent(rt, "P4 57 nodes and 2 listings", 32, 57, 2)?;
+    case.add([0, 0, 0, 1])?;
+    case.part(&case.nodes, 36..44)?;
+    case.part(&case.listings, 0..2)?;
+    case.end()
 }
 
-fn p5(rt: &impl Print, b: Bench) -> io::Result<()> {
-    let b = add(rt, b, 0, 0, 0, 1)?;
-    cleared(rt, b)?;
-    end(rt)
+fn p5(rt: &impl Print, name: &str, nodes: usize, listings: usize) -> io::Result<()> {
+    let mut case = Case::lent(rt, name, 32, nodes, listings)?;
+    case.add([0, 0, 0, 1])?;
+    case.cleared()?;
+    case.end()
+}
+
+// A level line, and then another.
+fn after_a_level_line(rt: &impl Print, name: &str, line: [u16; 4]) -> io::Result<()> {
+    let mut case = Case::small(rt, name)?;
+    case.add([0, 0, 10, 0])?;
+    case.add(line)?;
+    case.end()
 }
 
 fn p6(rt: &impl Print) -> io::Result<()> {
-    let b = case(rt, b"P6 an end within a line")?;
-    let b = add(rt, b, 0, 0, 10, 0)?;
-    add(rt, b, 5, 0, 5, 5)?;
-    end(rt)?;
-    let b = case(rt, b"P6 reversed")?;
-    let b = add(rt, b, 0, 0, 10, 0)?;
-    add(rt, b, 10, 0, 0, 0)?;
-    end(rt)
+    after_a_level_line(rt, "P6 an end within a line", [5, 0, 5, 5])?;
+    after_a_level_line(rt, "P6 reversed", [10, 0, 0, 0])
 }
 
 fn p7(rt: &impl Print) -> io::Result<()> {
-    let b = case(rt, b"P7 upright from an end")?;
-    let b = add(rt, b, 0, 0, 10, 0)?;
-    add(rt, b, 10, 0, 10, 5)?;
-    end(rt)?;
-    let b = case(rt, b"P7 straight on from an end")?;
-    let b = add(rt, b, 0, 0, 10, 0)?;
-    add(rt, b, 10, 0, 20, 0)?;
-    end(rt)
+    after_a_level_line(rt, "P7 upright from an end", [10, 0, 10, 5])?;
+    after_a_level_line(rt, "P7 straight on from an end", [10, 0, 20, 0])
 }
 
 fn p8(rt: &impl Print) -> io::Result<()> {
-    let b = lent(rt, b"P8 one slot", 8, 200, 200)?;
-    let b = add(rt, b, 0, 0, 10, 0)?;
-    let b = remove(rt, b, 1)?;
-    let b = add(rt, b, 0, 0, 10, 0)?;
-    remove(rt, b, 1)?;
-    end(rt)
+    let mut case = Case::lent(rt, "P8 one slot", 8, 200, 200)?;
+    case.add([0, 0, 10, 0])?;
+    case.remove(1)?;
+    case.add([0, 0, 10, 0])?;
+    case.remove(1)?;
+    case.end()
 }
 
 fn p9(rt: &impl Print) -> io::Result<()> {
-    let b = lent(rt, b"P9 the last generation", 8, 200, 200)?;
-    let b = set_line(b, 1, 65534);
-    let b = add(rt, b, 0, 0, 10, 0)?;
-    let b = remove(rt, b, 65535)?;
-    add(rt, b, 0, 0, 10, 0)?;
-    end(rt)
+    let mut case = Case::lent(rt, "P9 the last generation", 8, 200, 200)?;
+    case.lines.set(1, 65534);
+    case.add([0, 0, 10, 0])?;
+    case.remove(65535)?;
+    case.add([0, 0, 10, 0])?;
+    case.end()
 }
 
 fn p10(rt: &impl Print) -> io::Result<()> {
-    let points = [5u16, 9000, 5, 8000, 5, 7999, 16384, 0, 16383, 9000];
-    let mut answers = [0u32; 5];
-    let b = case(rt, b"P10 a level line")?;
-    let b = labelled(rt, b, 0, 8000, 16383, 8000, 7, 9)?;
-    look(rt, b, &points, &mut answers)?;
-    end(rt)
+    let mut case = Case::small(rt, "P10 a level line")?;
+    case.labelled([0, 8000, 16383, 8000], 7, 9)?;
+    case.look(&[5, 9000, 5, 8000, 5, 7999, 16384, 0, 16383, 9000], [0; 5])?;
+    case.end()
 }
 
 fn p11(rt: &impl Print) -> io::Result<()> {
-    let points = [0u16, 5];
-    let mut answers = [0u32; 1];
-    let b = case(rt, b"P11 a shared west end")?;
-    let b = labelled(rt, b, 0, 0, 10, 0, 1, 0)?;
-    let b = labelled(rt, b, 0, 0, 10, 10, 2, 0)?;
-    look(rt, b, &points, &mut answers)?;
-    end(rt)
+    let mut case = Case::small(rt, "P11 a shared west end")?;
+    case.labelled([0, 0, 10, 0], 1, 0)?;
+    case.labelled([0, 0, 10, 10], 2, 0)?;
+    case.look(&[0, 5], [0])?;
+    case.end()
 }
 
 // The leaf at the south-west corner with the third line, whose ends divide the block of side 16, and without it.
 fn run_only(rt: &impl Print) -> io::Result<()> {
-    let b = case(rt, b"run only")?;
-    let b = add(rt, b, 0, 0, 8, 8)?;
-    let b = add(rt, b, 0, 0, 8, 7)?;
-    let b = add(rt, b, 4, 7, 5, 7)?;
-    show(rt, b, 0, 0)?;
-    let b = remove(rt, b, 131073)?;
-    show(rt, b, 0, 0)?;
-    end(rt)
+    let mut case = Case::small(rt, "run only")?;
+    case.add([0, 0, 8, 8])?;
+    case.add([0, 0, 8, 7])?;
+    case.add([4, 7, 5, 7])?;
+    case.show(0, 0)?;
+    case.remove(131073)?;
+    case.show(0, 0)?;
+    case.end()
 }
 
 pub fn all(rt: &impl Print) -> io::Result<()> {
@@ -118,8 +107,8 @@ pub fn all(rt: &impl Print) -> io::Result<()> {
     p2(rt)?;
     p3(rt)?;
     p4(rt)?;
-    p5(rt, lent(rt, b"P5 56 nodes", 32, 56, 2)?)?;
-    p5(rt, lent(rt, b"P5 1 listing", 32, 57, 1)?)?;
+    p5(rt, "P5 56 nodes", 56, 2)?;
+    p5(rt, "P5 1 listing", 57, 1)?;
     p6(rt)?;
     p7(rt)?;
     p8(rt)?;

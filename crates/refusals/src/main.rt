@@ -2,278 +2,274 @@
 #![tactic(auto)]
 
 use std::io;
-use steps::bench::{
-    Bench, add, case, cleared, labelled, lend_lines, lent, lines_part, look, remove, set_line,
-    set_listing, set_node, show, start, tree, view,
-};
-use steps::tools::end;
+use steps::case::Case;
 
 // Most cases start from the line from corner to corner: 5 nodes, 4 listings, all of slot 0.
-fn drawn(rt: &impl Print, b: Bench) -> io::Result<Bench> {
-    labelled(rt, b, 0, 0, 16383, 16383, 7, 9)
+fn draw(case: &mut Case<impl Print + Drop>) -> io::Result<()> {
+    case.labelled([0, 0, 16383, 16383], 7, 9)
 }
 
-fn diagonal(rt: &impl Print, name: &[u8]) -> io::Result<Bench> {
-    drawn(rt, case(rt, name)?)
+fn diagonal<R: Print + Drop>(rt: R, name: &str) -> io::Result<Case<R>> {
+    let mut case = Case::small(rt, name)?;
+    draw(&mut case)?;
+    Ok(case)
 }
 
 // Its tables.
-fn tables(rt: &impl Print, b: Bench) -> io::Result<()> {
-    lines_part(rt, b, 0, 8)?;
-    tree(rt, b, 5, 4)?;
-    end(rt)
+fn tables(case: &Case<impl Print + Drop>) -> io::Result<()> {
+    case.part(&case.lines, 0..8)?;
+    case.tree(5, 4)?;
+    case.end()
 }
 
 // 31 is no number of slots of 8.
 fn torn_slot(rt: &impl Print) -> io::Result<()> {
-    let b = diagonal(rt, b"1 line table of 31")?;
-    let b = lend_lines(b, 31);
-    let b = add(rt, b, 0, 5, 0, 9)?;
-    tables(rt, b)
+    let mut case = diagonal(rt, "1 line table of 31")?;
+    case.lines.lend(31);
+    case.add([0, 5, 0, 9])?;
+    tables(&case)
 }
 
-fn not_started(rt: &impl Print, b: Bench) -> io::Result<()> {
-    start(rt, b)?;
-    end(rt)
+// Each table but one is of a length that would do.
+fn not_started(rt: &impl Print) -> io::Result<()> {
+    let lengths = [
+        ("1 no slot lent", 0, 200, 200),
+        ("1 no node lent", 32, 0, 200),
+        ("1 16385 nodes", 8, 16385, 4),
+        ("1 16385 listings", 8, 5, 16385),
+        ("1 1025 slots", 8200, 5, 4),
+    ];
+    for (name, lines, nodes, listings) in lengths {
+        let mut case = Case::lent(rt, name, lines, nodes, listings)?;
+        case.start()?;
+        case.end()?;
+    }
+    Ok(())
 }
 
 // The answer list keeps its 7.
 fn odd_points(rt: &impl Print) -> io::Result<()> {
-    let points = [5u16, 5, 5];
-    let mut answers = [7u32; 1];
-    let b = case(rt, b"1 an odd point list")?;
-    look(rt, b, &points, &mut answers)?;
-    end(rt)
+    let mut case = Case::small(rt, "1 an odd point list")?;
+    case.look(&[5, 5, 5], [7])?;
+    case.end()
 }
 
 fn not_half(rt: &impl Print) -> io::Result<()> {
-    let points = [5u16, 5];
-    let mut answers = [7u32; 2];
-    let b = case(rt, b"1 answers not half")?;
-    look(rt, b, &points, &mut answers)?;
-    end(rt)
+    let mut case = Case::small(rt, "1 answers not half")?;
+    case.look(&[5, 5], [7; 2])?;
+    case.end()
 }
 
 // Only 0 and 1 are live entries; the damage is left as it is.
 fn live_two(rt: &impl Print) -> io::Result<()> {
-    let b = diagonal(rt, b"2 live entry 2")?;
-    let b = set_line(b, 0, 2);
-    let b = add(rt, b, 0, 5, 0, 9)?;
-    tables(rt, b)
+    let mut case = diagonal(rt, "2 live entry 2")?;
+    case.lines.set(0, 2);
+    case.add([0, 5, 0, 9])?;
+    tables(&case)
 }
 
 // Handle 0 would fit slot 0 and generation 0, but no live slot has that.
 fn generation_zero(rt: &impl Print) -> io::Result<()> {
-    let b = diagonal(rt, b"2 generation 0")?;
-    let b = set_line(b, 1, 0);
-    let b = remove(rt, b, 0)?;
-    tables(rt, b)
+    let mut case = diagonal(rt, "2 generation 0")?;
+    case.lines.set(1, 0);
+    case.remove(0)?;
+    tables(&case)
 }
 
 // Slot 1 is not live and has 1 as its right label.
 fn label_left(rt: &impl Print) -> io::Result<()> {
-    let b = diagonal(rt, b"2 a label in an empty slot")?;
-    let b = set_line(b, 15, 1);
-    show(rt, b, 0, 0)?;
-    end(rt)
+    let mut case = diagonal(rt, "2 a label in an empty slot")?;
+    case.lines.set(15, 1);
+    case.show(0, 0)?;
+    case.end()
 }
 
 // The tree has 4 listings; the fifth must be 0.
 fn entry_after(rt: &impl Print) -> io::Result<()> {
-    let points = [5u16, 5];
-    let mut answers = [7u32; 1];
-    let b = diagonal(rt, b"2 an entry after the last used")?;
-    let b = set_listing(b, 4, 1);
-    look(rt, b, &points, &mut answers)?;
-    end(rt)
+    let mut case = diagonal(rt, "2 an entry after the last used")?;
+    case.listings.set(4, 1);
+    case.look(&[5, 5], [7])?;
+    case.end()
 }
 
 // The NW leaf with none, as half-open blocks would have it; damage comes before the off-grid coordinate.
 fn wrong_count(rt: &impl Print) -> io::Result<()> {
-    let b = diagonal(rt, b"2 a leaf's count")?;
-    let b = set_node(b, 1, 0);
-    add(rt, b, 16384, 5, 0, 9)?;
-    end(rt)
+    let mut case = diagonal(rt, "2 a leaf's count")?;
+    case.nodes.set(1, 0);
+    case.add([16384, 5, 0, 9])?;
+    case.end()
 }
 
 // Twice the line along the south, with the tree of both: no count is wrong, but they conflict.
 fn equal_lines(rt: &impl Print) -> io::Result<()> {
-    let points = [5u16, 5];
-    let mut answers = [7u32; 1];
-    let b = case(rt, b"2 equal lines in the right tree")?;
-    let b = add(rt, b, 0, 0, 16383, 0)?;
-    let b = set_line(b, 8, 1);
-    let b = set_line(b, 9, 1);
-    let b = set_line(b, 12, 16383);
-    let b = set_node(b, 3, 2);
-    let b = set_node(b, 4, 2);
-    let b = set_listing(b, 1, 1);
-    let b = set_listing(b, 3, 1);
-    look(rt, b, &points, &mut answers)?;
-    end(rt)
+    let mut case = Case::small(rt, "2 equal lines in the right tree")?;
+    case.add([0, 0, 16383, 0])?;
+    case.lines.set(8, 1);
+    case.lines.set(9, 1);
+    case.lines.set(12, 16383);
+    case.nodes.set(3, 2);
+    case.nodes.set(4, 2);
+    case.listings.set(1, 1);
+    case.listings.set(3, 1);
+    case.look(&[5, 5], [7])?;
+    case.end()
 }
 
 fn off_grid(rt: &impl Print) -> io::Result<()> {
-    let b = diagonal(rt, b"3 off the grid")?;
-    let b = add(rt, b, 0, 5, 16384, 9)?;
-    tables(rt, b)?;
-    let b = diagonal(rt, b"3 before 4")?;
-    add(rt, b, 16384, 5, 16384, 5)?;
-    end(rt)?;
-    let b = diagonal(rt, b"3 leaf off the grid")?;
-    show(rt, b, 0, 16384)?;
-    end(rt)
+    let mut case = diagonal(rt, "3 off the grid")?;
+    case.add([0, 5, 16384, 9])?;
+    tables(&case)?;
+    let mut case = diagonal(rt, "3 before 4")?;
+    case.add([16384, 5, 16384, 5])?;
+    case.end()?;
+    let mut case = diagonal(rt, "3 leaf off the grid")?;
+    case.show(0, 16384)?;
+    case.end()
 }
 
 // The point is on the diagonal too, but 4 is tested before 5.
 fn no_length(rt: &impl Print) -> io::Result<()> {
-    let b = diagonal(rt, b"4 no length, before 5")?;
-    let b = add(rt, b, 5, 5, 5, 5)?;
-    tables(rt, b)
+    let mut case = diagonal(rt, "4 no length, before 5")?;
+    case.add([5, 5, 5, 5])?;
+    tables(&case)
 }
 
 // The diagonals share the map's middle, which is no grid point.
 fn crossing(rt: &impl Print) -> io::Result<()> {
-    let b = diagonal(rt, b"5 crossing at a block corner")?;
-    let b = add(rt, b, 0, 16383, 16383, 0)?;
-    tables(rt, b)
+    let mut case = diagonal(rt, "5 crossing at a block corner")?;
+    case.add([0, 16383, 16383, 0])?;
+    tables(&case)
 }
 
-fn three_levels(rt: &impl Print, name: &[u8]) -> io::Result<Bench> {
-    let b = case(rt, name)?;
-    let b = add(rt, b, 0, 1000, 100, 1000)?;
-    let b = add(rt, b, 0, 2000, 100, 2000)?;
-    add(rt, b, 0, 3000, 100, 3000)
+fn three_levels<R: Print + Drop>(rt: R, name: &str) -> io::Result<Case<R>> {
+    let mut case = Case::small(rt, name)?;
+    case.add([0, 1000, 100, 1000])?;
+    case.add([0, 2000, 100, 2000])?;
+    case.add([0, 3000, 100, 3000])?;
+    Ok(case)
 }
 
 // Across slots 1 and 2, then across all three from the north.
 fn lowest_slot(rt: &impl Print) -> io::Result<()> {
-    let b = three_levels(rt, b"5 the lowest slot")?;
-    let b = add(rt, b, 50, 1500, 50, 3500)?;
-    add(rt, b, 50, 3500, 50, 500)?;
-    end(rt)
+    let mut case = three_levels(rt, "5 the lowest slot")?;
+    case.add([50, 1500, 50, 3500])?;
+    case.add([50, 3500, 50, 500])?;
+    case.end()
+}
+
+// A line, and then another.
+fn two_lines(rt: &impl Print, name: &str, first: [u16; 4], second: [u16; 4]) -> io::Result<()> {
+    let mut case = Case::small(rt, name)?;
+    case.add(first)?;
+    case.add(second)?;
+    case.end()
 }
 
 // Overlap: they share an end, and points beside it. Touching: the older end lies within the new line. Crossing: at height 0.5.
 fn three_kinds(rt: &impl Print) -> io::Result<()> {
-    let b = case(rt, b"5 part of a line")?;
-    let b = add(rt, b, 0, 0, 10, 0)?;
-    add(rt, b, 0, 0, 5, 0)?;
-    end(rt)?;
-    let b = case(rt, b"5 over an end")?;
-    let b = add(rt, b, 5, 0, 5, 5)?;
-    add(rt, b, 0, 0, 10, 0)?;
-    end(rt)?;
-    let b = case(rt, b"5 crossing between grid points")?;
-    let b = add(rt, b, 0, 0, 10, 1)?;
-    add(rt, b, 5, 0, 5, 1)?;
-    end(rt)
+    two_lines(rt, "5 part of a line", [0, 0, 10, 0], [0, 0, 5, 0])?;
+    two_lines(rt, "5 over an end", [5, 0, 5, 5], [0, 0, 10, 0])?;
+    two_lines(rt, "5 crossing between grid points", [0, 0, 10, 1], [5, 0, 5, 1])
 }
 
 // Under the first at x = 5 and 6, half a grid step away. In half-steps the first is at height 2 over x = 11, so it
 // meets the smallest block about (11,1), and at 2.1 over x = 12, past the one about (13,1).
 fn near_miss(rt: &impl Print) -> io::Result<()> {
-    let b = case(rt, b"a near miss")?;
-    let b = add(rt, b, 0, 0, 10, 1)?;
-    let b = add(rt, b, 5, 0, 6, 0)?;
-    show(rt, b, 5, 0)?;
-    show(rt, b, 6, 0)?;
-    end(rt)?;
-    let b = case(rt, b"in one direction, apart")?;
-    let b = add(rt, b, 0, 0, 10, 0)?;
-    add(rt, b, 11, 0, 20, 0)?;
-    end(rt)
+    let mut case = Case::small(rt, "a near miss")?;
+    case.add([0, 0, 10, 1])?;
+    case.add([5, 0, 6, 0])?;
+    case.show(5, 0)?;
+    case.show(6, 0)?;
+    case.end()?;
+    two_lines(rt, "in one direction, apart", [0, 0, 10, 0], [11, 0, 20, 0])
 }
 
 // Lent one slot, which is live: a line beside the diagonal, and one across it.
 fn no_slot(rt: &impl Print) -> io::Result<()> {
-    let b = drawn(rt, lent(rt, b"6 no slot", 8, 200, 200)?)?;
-    let b = add(rt, b, 0, 5, 0, 9)?;
-    tables(rt, b)?;
-    let b = drawn(rt, lent(rt, b"5 before 6", 8, 200, 200)?)?;
-    add(rt, b, 0, 16383, 16383, 0)?;
-    end(rt)
+    let mut case = Case::lent(rt, "6 no slot", 8, 200, 200)?;
+    draw(&mut case)?;
+    case.add([0, 5, 0, 9])?;
+    tables(&case)?;
+    let mut case = Case::lent(rt, "5 before 6", 8, 200, 200)?;
+    draw(&mut case)?;
+    case.add([0, 16383, 16383, 0])?;
+    case.end()
 }
 
 // Two ends in one quarter need more than 5 nodes.
 fn no_room(rt: &impl Print) -> io::Result<()> {
-    let b = drawn(rt, lent(rt, b"7 no room", 32, 5, 4)?)?;
-    let b = add(rt, b, 0, 5, 0, 9)?;
-    tables(rt, b)
+    let mut case = Case::lent(rt, "7 no room", 32, 5, 4)?;
+    draw(&mut case)?;
+    case.add([0, 5, 0, 9])?;
+    tables(&case)
 }
 
 // Slot 4 of four; slot 1, not live; slot 0 at another generation.
 fn unknown(rt: &impl Print) -> io::Result<()> {
-    let b = diagonal(rt, b"8 unknown handle")?;
-    let b = remove(rt, b, 262145)?;
-    let b = remove(rt, b, 65537)?;
-    let b = remove(rt, b, 2)?;
-    tables(rt, b)
+    let mut case = diagonal(rt, "8 unknown handle")?;
+    for handle in [262145, 65537, 2] {
+        case.remove(handle)?;
+    }
+    tables(&case)
 }
 
 // Inverted each way, and a coordinate off the grid, before the list is asked for; damage comes first. The list keeps its 7.
 fn bad_window(rt: &impl Print) -> io::Result<()> {
-    let mut slots = [7u16; 1];
-    let mut none = [0u16; 0];
-    let b = diagonal(rt, b"9 bad window")?;
-    view(rt, b, 9, 0, 8, 16383, &mut slots)?;
-    view(rt, b, 0, 9, 16383, 8, &mut slots)?;
-    view(rt, b, 0, 0, 16384, 16383, &mut none)?;
-    view(rt, b, 0, 16384, 16383, 16384, &mut none)?;
-    end(rt)?;
-    let b = set_node(diagonal(rt, b"2 before 9")?, 1, 0);
-    view(rt, b, 9, 0, 8, 16383, &mut slots)?;
-    end(rt)
+    let mut case = diagonal(rt, "9 bad window")?;
+    case.view([9, 0, 8, 16383], [7])?;
+    case.view([0, 9, 16383, 8], [7])?;
+    case.view([0, 0, 16384, 16383], [])?;
+    case.view([0, 16384, 16383, 16384], [])?;
+    case.end()?;
+    let mut case = diagonal(rt, "2 before 9")?;
+    case.nodes.set(1, 0);
+    case.view([9, 0, 8, 16383], [7])?;
+    case.end()
 }
 
 // Two lines in the window, and room for one; where one is in it, the list does.
 fn short_list(rt: &impl Print) -> io::Result<()> {
-    let mut slots = [7u16; 1];
-    let b = diagonal(rt, b"10 list short")?;
-    let b = add(rt, b, 0, 5, 0, 9)?;
-    view(rt, b, 0, 0, 16383, 16383, &mut slots)?;
-    view(rt, b, 0, 6, 3, 9, &mut slots)?;
-    end(rt)
+    let mut case = diagonal(rt, "10 list short")?;
+    case.add([0, 5, 0, 9])?;
+    case.view([0, 0, 16383, 16383], [7])?;
+    case.view([0, 6, 3, 9], [7])?;
+    case.end()
 }
 
 // Slot 0 was freed at the last generation: slot 1 is taken.
 fn retired(rt: &impl Print) -> io::Result<()> {
-    let b = case(rt, b"a retired slot")?;
-    let b = set_line(b, 1, 65535);
-    let b = labelled(rt, b, 0, 0, 16383, 0, 3, 4)?;
-    lines_part(rt, b, 0, 16)?;
-    tree(rt, b, 5, 2)?;
-    end(rt)
+    let mut case = Case::small(rt, "a retired slot")?;
+    case.lines.set(1, 65535);
+    case.labelled([0, 0, 16383, 0], 3, 4)?;
+    case.part(&case.lines, 0..16)?;
+    case.tree(5, 2)?;
+    case.end()
 }
 
 // The lowest free slot at the next generation; its older handle stays unknown.
 fn used_again(rt: &impl Print) -> io::Result<()> {
-    let b = three_levels(rt, b"a slot used again")?;
-    let b = remove(rt, b, 65537)?;
-    let b = add(rt, b, 0, 2000, 100, 2000)?;
-    let b = remove(rt, b, 65537)?;
-    remove(rt, b, 65538)?;
-    end(rt)
+    let mut case = three_levels(rt, "a slot used again")?;
+    case.remove(65537)?;
+    case.add([0, 2000, 100, 2000])?;
+    case.remove(65537)?;
+    case.remove(65538)?;
+    case.end()
 }
 
 // Generations begin anew after start.
 fn started_again(rt: &impl Print) -> io::Result<()> {
-    let b = diagonal(rt, b"start clears")?;
-    let b = remove(rt, b, 1)?;
-    let b = add(rt, b, 0, 0, 16383, 16383)?;
-    let b = start(rt, b)?;
-    cleared(rt, b)?;
-    add(rt, b, 0, 0, 16383, 16383)?;
-    end(rt)
+    let mut case = diagonal(rt, "start clears")?;
+    case.remove(1)?;
+    case.add([0, 0, 16383, 16383])?;
+    case.start()?;
+    case.cleared()?;
+    case.add([0, 0, 16383, 16383])?;
+    case.end()
 }
 
 fn lengths(rt: &impl Print) -> io::Result<()> {
     torn_slot(rt)?;
-    not_started(rt, lent(rt, b"1 no slot lent", 0, 200, 200)?)?;
-    not_started(rt, lent(rt, b"1 no node lent", 32, 0, 200)?)?;
-    not_started(rt, lent(rt, b"1 16385 nodes", 8, 16385, 4)?)?;
-    not_started(rt, lent(rt, b"1 16385 listings", 8, 5, 16385)?)?;
-    not_started(rt, lent(rt, b"1 1025 slots", 8200, 5, 4)?)?;
+    not_started(rt)?;
     odd_points(rt)?;
     not_half(rt)
 }

@@ -5,5 +5,6 @@
 // A write that fails gives its error, and no step follows it: a case cut short must not end like a whole one.
 #![tactic(auto)]
 
-pub mod bench;
-pub mod tools;
+pub mod case;
+mod numbers;
+pub mod table;

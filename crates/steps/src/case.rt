@@ -1,0 +1,178 @@
+// A case: three tables, the calls on what is lent of them, and a line that tells each step.
+use crate::numbers::{put, put_all, put_whether_any};
+use crate::table::Table;
+use definitions::{Given, Window};
+use host::number;
+use std::io;
+use std::ops::Range;
+
+// Each table is one entry or slot longer than may be lent.
+#[derive(Drop)]
+pub struct Case<R> {
+    rt: R,
+    pub lines: Table<8200>,
+    pub nodes: Table<16385>,
+    pub listings: Table<16385>,
+}
+
+impl<R: Print + Drop> Case<R> {
+    // Every table 0, with so many entries lent.
+    pub fn lent(
+        rt: R,
+        name: &str,
+        lines: usize,
+        nodes: usize,
+        listings: usize,
+    ) -> io::Result<Self> {
+        rt.print(name)?;
+        Ok(Case {
+            rt,
+            lines: Table::new(lines),
+            nodes: Table::new(nodes),
+            listings: Table::new(listings),
+        })
+    }
+
+    // Four slots, and room for small trees.
+    pub fn small(rt: R, name: &str) -> io::Result<Self> {
+        Case::lent(rt, name, 32, 200, 200)
+    }
+
+    // A line of its own for what follows, on the tables as they are.
+    pub fn name(&self, name: &str) -> io::Result<()> {
+        self.rt.print(name)
+    }
+
+    pub fn end(&self) -> io::Result<()> {
+        println!(self.rt)
+    }
+
+    // Between two steps.
+    fn bar(&self) -> io::Result<()> {
+        self.rt.print(" |")
+    }
+
+    // Refusal and detail, which a call gives as one number.
+    fn tell(&self, number: u64) -> io::Result<()> {
+        put(&self.rt, number >> 32)?;
+        put(&self.rt, number & 0xffff_ffff)
+    }
+
+    // A call that may write what is lent.
+    fn call<F>(&mut self, call: F) -> io::Result<()>
+    where
+        F: FnOnce(&mut [u16], &mut [u16], &mut [u16]) -> u64,
+        requires { F.IsAlwaysCallable call }
+    {
+        self.bar()?;
+        let number = call(
+            self.lines.lent_mut(),
+            self.nodes.lent_mut(),
+            self.listings.lent_mut(),
+        );
+        self.tell(number)
+    }
+
+    // A call that only reads it.
+    fn ask<F>(&self, ask: F) -> io::Result<()>
+    where
+        F: FnOnce(&[u16], &[u16], &[u16]) -> u64,
+        requires { F.IsAlwaysCallable ask }
+    {
+        self.bar()?;
+        let number = ask(self.lines.lent(), self.nodes.lent(), self.listings.lent());
+        self.tell(number)
+    }
+
+    pub fn start(&mut self) -> io::Result<()> {
+        self.call(|lines, nodes, listings| number(map::start(lines, nodes, listings)))
+    }
+
+    pub fn labelled(
+        &mut self,
+        [x1, y1, x2, y2]: [u16; 4],
+        left: u16,
+        right: u16,
+    ) -> io::Result<()> {
+        let line = Given {
+            x1,
+            y1,
+            x2,
+            y2,
+            left,
+            right,
+        };
+        self.call(|lines, nodes, listings| number(map::insert(lines, nodes, listings, line)))
+    }
+
+    pub fn add(&mut self, ends: [u16; 4]) -> io::Result<()> {
+        self.labelled(ends, 0, 0)
+    }
+
+    pub fn remove(&mut self, handle: u32) -> io::Result<()> {
+        self.call(|lines, nodes, listings| number(map::delete(lines, nodes, listings, handle)))
+    }
+
+    // The answer, the leaf's side and corner, how many lines it lists, and their slots.
+    pub fn show(&self, x: u16, y: u16) -> io::Result<()> {
+        let lines = self.lines.lent();
+        let nodes = self.nodes.lent();
+        let listings = self.listings.lent();
+        self.bar()?;
+        let shown = map::show_leaf(lines, nodes, listings, x, y);
+        let slots = map::show_part(lines, nodes, listings, x, y);
+        self.tell(number(shown.answer))?;
+        put_all(&self.rt, &[shown.side, shown.west.0, shown.south.0])?;
+        put(&self.rt, slots.len())?;
+        put_all(&self.rt, slots)
+    }
+
+    // The answers as they are after the call, from those that the case begins with.
+    pub fn look<const N: usize>(&self, points: &[u16], mut answers: [u32; N]) -> io::Result<()> {
+        self.ask(|lines, nodes, listings| {
+            number(map::locate(lines, nodes, listings, points, &mut answers))
+        })?;
+        put_all(&self.rt, &answers)
+    }
+
+    // The slots likewise.
+    pub fn view<const N: usize>(
+        &self,
+        [west, south, east, north]: [u16; 4],
+        mut slots: [u16; N],
+    ) -> io::Result<()> {
+        let window = Window {
+            west,
+            south,
+            east,
+            north,
+        };
+        self.ask(|lines, nodes, listings| {
+            number(map::window(lines, nodes, listings, window, &mut slots))
+        })?;
+        put_all(&self.rt, &slots)
+    }
+
+    // Some entries of a table, and whether all after them are 0.
+    pub fn part<const N: usize>(&self, table: &Table<N>, some: Range<usize>) -> io::Result<()> {
+        let entries = table.entries();
+        let (before, after) = entries.split_at(some.end.min(entries.len()));
+        self.bar()?;
+        put_all(&self.rt, &before[some.start.min(before.len())..])?;
+        put_whether_any(&self.rt, after)
+    }
+
+    // The tree: so many nodes and listings.
+    pub fn tree(&self, nodes: usize, listings: usize) -> io::Result<()> {
+        self.part(&self.nodes, 0..nodes)?;
+        self.part(&self.listings, 0..listings)
+    }
+
+    // Whether the three tables are all 0.
+    pub fn cleared(&self) -> io::Result<()> {
+        self.bar()?;
+        put_whether_any(&self.rt, self.lines.entries())?;
+        put_whether_any(&self.rt, self.nodes.entries())?;
+        put_whether_any(&self.rt, self.listings.entries())
+    }
+}
