@@ -68,7 +68,7 @@ fn p8(rt: &impl Print) -> io::Result<()> {
 
 fn p9(rt: &impl Print) -> io::Result<()> {
     let mut case = Case::lent(rt, "P9 the last generation", 8, 200, 200)?;
-    case.lines.set(1, 65534);
+    case.lines.entries[1] = 65534;
     case.add([0, 0, 10, 0])?;
     case.remove(65535)?;
     case.add([0, 0, 10, 0])?;

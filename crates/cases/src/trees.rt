@@ -84,7 +84,7 @@ fn square(rt: &impl Print) -> io::Result<()> {
 // Inside: the south line's left. South of it: none. North of it, from the west end on: the north line's right, as it
 // was drawn westward; at its east end no line counts. Then a corner, two upright sides, and a corner of slots 1 and 2.
 fn about_the_square(case: &Case<impl Print + Drop>) -> io::Result<()> {
-    case.name("points about the square")?;
+    case.begin("points about the square")?;
     let points = [
         8000, 8000, 8000, 100, 8000, 13000, 4000, 12001, 12000, 12001, 4000, 4000, 12000, 8000,
         4000, 8000, 12000, 12000,

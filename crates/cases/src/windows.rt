@@ -15,8 +15,8 @@ fn drawn<R: Print + Drop>(rt: R, name: &str) -> io::Result<Case<R>> {
 
 // Each window with a list of two, both 9.
 fn seen(case: &Case<impl Print + Drop>, windows: &[[u16; 4]]) -> io::Result<()> {
-    for window in windows {
-        case.view(*window, [9; 2])?;
+    for &window in windows {
+        case.view(window, [9; 2])?;
     }
     Ok(())
 }

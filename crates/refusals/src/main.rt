@@ -25,7 +25,7 @@ fn tables(case: &Case<impl Print + Drop>) -> io::Result<()> {
 // 31 is no number of slots of 8.
 fn torn_slot(rt: &impl Print) -> io::Result<()> {
     let mut case = diagonal(rt, "1 line table of 31")?;
-    case.lines.lend(31);
+    case.lines.lent = 31;
     case.add([0, 5, 0, 9])?;
     tables(&case)
 }
@@ -49,13 +49,13 @@ fn not_started(rt: &impl Print) -> io::Result<()> {
 
 // The answer list keeps its 7.
 fn odd_points(rt: &impl Print) -> io::Result<()> {
-    let mut case = Case::small(rt, "1 an odd point list")?;
+    let case = Case::small(rt, "1 an odd point list")?;
     case.look(&[5, 5, 5], [7])?;
     case.end()
 }
 
 fn not_half(rt: &impl Print) -> io::Result<()> {
-    let mut case = Case::small(rt, "1 answers not half")?;
+    let case = Case::small(rt, "1 answers not half")?;
     case.look(&[5, 5], [7; 2])?;
     case.end()
 }
@@ -63,7 +63,7 @@ fn not_half(rt: &impl Print) -> io::Result<()> {
 // Only 0 and 1 are live entries; the damage is left as it is.
 fn live_two(rt: &impl Print) -> io::Result<()> {
     let mut case = diagonal(rt, "2 live entry 2")?;
-    case.lines.set(0, 2);
+    case.lines.entries[0] = 2;
     case.add([0, 5, 0, 9])?;
     tables(&case)
 }
@@ -71,7 +71,7 @@ fn live_two(rt: &impl Print) -> io::Result<()> {
 // Handle 0 would fit slot 0 and generation 0, but no live slot has that.
 fn generation_zero(rt: &impl Print) -> io::Result<()> {
     let mut case = diagonal(rt, "2 generation 0")?;
-    case.lines.set(1, 0);
+    case.lines.entries[1] = 0;
     case.remove(0)?;
     tables(&case)
 }
@@ -79,7 +79,7 @@ fn generation_zero(rt: &impl Print) -> io::Result<()> {
 // Slot 1 is not live and has 1 as its right label.
 fn label_left(rt: &impl Print) -> io::Result<()> {
     let mut case = diagonal(rt, "2 a label in an empty slot")?;
-    case.lines.set(15, 1);
+    case.lines.entries[15] = 1;
     case.show(0, 0)?;
     case.end()
 }
@@ -87,7 +87,7 @@ fn label_left(rt: &impl Print) -> io::Result<()> {
 // The tree has 4 listings; the fifth must be 0.
 fn entry_after(rt: &impl Print) -> io::Result<()> {
     let mut case = diagonal(rt, "2 an entry after the last used")?;
-    case.listings.set(4, 1);
+    case.listings.entries[4] = 1;
     case.look(&[5, 5], [7])?;
     case.end()
 }
@@ -95,7 +95,7 @@ fn entry_after(rt: &impl Print) -> io::Result<()> {
 // The NW leaf with none, as half-open blocks would have it; damage comes before the off-grid coordinate.
 fn wrong_count(rt: &impl Print) -> io::Result<()> {
     let mut case = diagonal(rt, "2 a leaf's count")?;
-    case.nodes.set(1, 0);
+    case.nodes.entries[1] = 0;
     case.add([16384, 5, 0, 9])?;
     case.end()
 }
@@ -104,13 +104,13 @@ fn wrong_count(rt: &impl Print) -> io::Result<()> {
 fn equal_lines(rt: &impl Print) -> io::Result<()> {
     let mut case = Case::small(rt, "2 equal lines in the right tree")?;
     case.add([0, 0, 16383, 0])?;
-    case.lines.set(8, 1);
-    case.lines.set(9, 1);
-    case.lines.set(12, 16383);
-    case.nodes.set(3, 2);
-    case.nodes.set(4, 2);
-    case.listings.set(1, 1);
-    case.listings.set(3, 1);
+    case.lines.entries[8] = 1;
+    case.lines.entries[9] = 1;
+    case.lines.entries[12] = 16383;
+    case.nodes.entries[3] = 2;
+    case.nodes.entries[4] = 2;
+    case.listings.entries[1] = 1;
+    case.listings.entries[3] = 1;
     case.look(&[5, 5], [7])?;
     case.end()
 }
@@ -122,7 +122,7 @@ fn off_grid(rt: &impl Print) -> io::Result<()> {
     let mut case = diagonal(rt, "3 before 4")?;
     case.add([16384, 5, 16384, 5])?;
     case.end()?;
-    let mut case = diagonal(rt, "3 leaf off the grid")?;
+    let case = diagonal(rt, "3 leaf off the grid")?;
     case.show(0, 16384)?;
     case.end()
 }
@@ -169,7 +169,12 @@ fn two_lines(rt: &impl Print, name: &str, first: [u16; 4], second: [u16; 4]) -> 
 fn three_kinds(rt: &impl Print) -> io::Result<()> {
     two_lines(rt, "5 part of a line", [0, 0, 10, 0], [0, 0, 5, 0])?;
     two_lines(rt, "5 over an end", [5, 0, 5, 5], [0, 0, 10, 0])?;
-    two_lines(rt, "5 crossing between grid points", [0, 0, 10, 1], [5, 0, 5, 1])
+    two_lines(
+        rt,
+        "5 crossing between grid points",
+        [0, 0, 10, 1],
+        [5, 0, 5, 1],
+    )
 }
 
 // Under the first at x = 5 and 6, half a grid step away. In half-steps the first is at height 2 over x = 11, so it
@@ -215,14 +220,14 @@ fn unknown(rt: &impl Print) -> io::Result<()> {
 
 // Inverted each way, and a coordinate off the grid, before the list is asked for; damage comes first. The list keeps its 7.
 fn bad_window(rt: &impl Print) -> io::Result<()> {
-    let mut case = diagonal(rt, "9 bad window")?;
+    let case = diagonal(rt, "9 bad window")?;
     case.view([9, 0, 8, 16383], [7])?;
     case.view([0, 9, 16383, 8], [7])?;
     case.view([0, 0, 16384, 16383], [])?;
     case.view([0, 16384, 16383, 16384], [])?;
     case.end()?;
     let mut case = diagonal(rt, "2 before 9")?;
-    case.nodes.set(1, 0);
+    case.nodes.entries[1] = 0;
     case.view([9, 0, 8, 16383], [7])?;
     case.end()
 }
@@ -239,7 +244,7 @@ fn short_list(rt: &impl Print) -> io::Result<()> {
 // Slot 0 was freed at the last generation: slot 1 is taken.
 fn retired(rt: &impl Print) -> io::Result<()> {
     let mut case = Case::small(rt, "a retired slot")?;
-    case.lines.set(1, 65535);
+    case.lines.entries[1] = 65535;
     case.labelled([0, 0, 16383, 0], 3, 4)?;
     case.part(&case.lines, 0..16)?;
     case.tree(5, 2)?;

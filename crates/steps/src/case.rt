@@ -39,7 +39,7 @@ impl<R: Print + Drop> Case<R> {
     }
 
     // A line of its own for what follows, on the tables as they are.
-    pub fn name(&self, name: &str) -> io::Result<()> {
+    pub fn begin(&self, name: &str) -> io::Result<()> {
         self.rt.print(name)
     }
 
@@ -88,6 +88,7 @@ impl<R: Print + Drop> Case<R> {
         self.call(|lines, nodes, listings| number(map::start(lines, nodes, listings)))
     }
 
+    // A line by the x and y of end 1 and of end 2, and its labels.
     pub fn labelled(
         &mut self,
         [x1, y1, x2, y2]: [u16; 4],
@@ -127,7 +128,7 @@ impl<R: Print + Drop> Case<R> {
         put_all(&self.rt, slots)
     }
 
-    // The answers as they are after the call, from those that the case begins with.
+    // The answer list is lent as it is given, and told as the call leaves it.
     pub fn look<const N: usize>(&self, points: &[u16], mut answers: [u32; N]) -> io::Result<()> {
         self.ask(|lines, nodes, listings| {
             number(map::locate(lines, nodes, listings, points, &mut answers))
@@ -135,7 +136,7 @@ impl<R: Print + Drop> Case<R> {
         put_all(&self.rt, &answers)
     }
 
-    // The slots likewise.
+    // So is the slot list.
     pub fn view<const N: usize>(
         &self,
         [west, south, east, north]: [u16; 4],
@@ -155,8 +156,7 @@ impl<R: Print + Drop> Case<R> {
 
     // Some entries of a table, and whether all after them are 0.
     pub fn part<const N: usize>(&self, table: &Table<N>, some: Range<usize>) -> io::Result<()> {
-        let entries = table.entries();
-        let (before, after) = entries.split_at(some.end.min(entries.len()));
+        let (before, after) = table.entries.split_at(some.end.min(N));
         self.bar()?;
         put_all(&self.rt, &before[some.start.min(before.len())..])?;
         put_whether_any(&self.rt, after)
@@ -171,8 +171,8 @@ impl<R: Print + Drop> Case<R> {
     // Whether the three tables are all 0.
     pub fn cleared(&self) -> io::Result<()> {
         self.bar()?;
-        put_whether_any(&self.rt, self.lines.entries())?;
-        put_whether_any(&self.rt, self.nodes.entries())?;
-        put_whether_any(&self.rt, self.listings.entries())
+        put_whether_any(&self.rt, &self.lines.entries)?;
+        put_whether_any(&self.rt, &self.nodes.entries)?;
+        put_whether_any(&self.rt, &self.listings.entries)
     }
 }

@@ -1,9 +1,9 @@
-// A table of a case: its entries, and how many of them are lent to a call.
+// A table of a case: its entries, and how many of them are lent to a call. A number over all lends as many as there are.
 
 #[derive(Drop)]
 pub struct Table<const N: usize> {
-    entries: [u16; N],
-    lent: usize,
+    pub entries: [u16; N],
+    pub lent: usize,
 }
 
 impl<const N: usize> Table<N> {
@@ -13,21 +13,6 @@ impl<const N: usize> Table<N> {
             entries: [0; N],
             lent,
         }
-    }
-
-    // So many are lent from now on, or as many as there are.
-    pub fn lend(&mut self, lent: usize) {
-        self.lent = lent;
-    }
-
-    pub fn set(&mut self, at: usize, value: u16) {
-        if let Some(entry) = self.entries.get_mut(at) {
-            *entry = value;
-        }
-    }
-
-    pub(crate) fn entries(&self) -> &[u16] {
-        &self.entries
     }
 
     pub(crate) fn lent(&self) -> &[u16] {
