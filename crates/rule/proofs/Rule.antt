@@ -1,14 +1,13 @@
 -- The rule of division by the ends of the first line, of lines that all meet the block.
-use mathlib.Core.Path.{◌≡◌, refl, sym, ap, ◌∙◌, subst}
+use mathlib.Core.Path.{◌≡◌, refl, sym, ap, ap₂, ◌∙◌, subst}
 use mathlib.Core.Logic.{◌⊎◌, inl, inr}
 use mathlib.Core.Bool.{Bool, true, false, not, ◌&&◌}
 use mathlib.Core.List.Memᴰ
-use mathlib.Core.List.{List, [], ◌∷◌, ◌++◌, map, Memᴰ}
-use Prim.Native.Nat.{ℕ, zero, suc, ◌+◌, ◌-◌, ◌<◌}
-use native.Mathlib.Numerals.{add-one}
+use mathlib.Core.List.{List, [], ◌∷◌, map, Memᴰ}
+use Prim.Native.Nat.{ℕ, zero, suc, ◌<◌}
 use native.Mathlib.Omega.{arith}
-use lib.ListN.{length, take, drop, get_or}
-use lib.Seq.{take-suc, take_all}
+use Rattle.std.specs.List.{list_all}
+use lib.ListN.{length, get_or}
 use borrow.Author.Tests.{not-true}
 use Rattle.algebra.specs.Lists.{every→, every←, those_yes, one_yes}
 use Rattle.algebra.specs.Tests.{no_path, both→, both←, both_ways, false_by, or_l, or_r}
@@ -167,20 +166,27 @@ module _ (k : Block) (l : Line) (ha : inside k l.a ≡ false) (hb : inside k l.b
       go (inl o) = out (end_cases o.end l (o.shared l (Memᴰ.head refl) ml)) o.here
       go (inr n) = let h = n.one in let e = ap length two in omega arith
 
--- ---- the loop over slots
-pub every_turn : (p : ℕ → Bool) (l : List ℕ) (i : ℕ) → every p (take i l) ≡ true → i < length l → p (get_or l i 0) ≡ true → every p (take (i + 1) l) ≡ true
-every_turn p l i h lt e = rw (add-one, take-suc l i 0 lt) (every← p (take i l ++ (get_or l i 0 ∷ [])) (λ y m. cases y (Memᴰ.append_cases (take i l) m)))
-  where
-    cases : (y : ℕ) → Memᴰ y (take i l) ⊎ Memᴰ y (get_or l i 0 ∷ []) → p y ≡ true
-    cases y (inl m) = every→ p (take i l) h m
-    cases y (inr m) = ap p (Memᴰ.eq_of_singleton m) ∙ e
+-- ---- the slots, one after another
+pub mem_place : (l : List ℕ) (i : ℕ) {x : ℕ} → i < length l → x ≡ get_or l i x → Memᴰ x l
+mem_place [] i h e = absurd (omega arith)
+mem_place (y ∷ l) zero h e = Memᴰ.head e
+mem_place (y ∷ l) (suc i) h e = Memᴰ.tail (mem_place l i (omega arith) e)
 
-pub every_not : (p : ℕ → Bool) (l : List ℕ) (x : ℕ) → Memᴰ x l → p x ≡ false → false ≡ every p l
-every_not p l x m e = sym (false_by _ (λ h. no_path (sym e ∙ every→ p l h m)))
+pub every_all : (p : ℕ → Bool) (l : List ℕ) → list_all p l ≡ every p l
+unfolding every
+every_all p [] = refl
+every_all p (x ∷ l) = go (p x) (every_all p l)
+  where
+    go : (t : Bool) {a b : Bool} → a ≡ b → t && a ≡ elim t [ true ↦ b | false ↦ false ]
+    go true e = e
+    go false e = refl
 
 pub hangs_is : (k : Block) (v : Point) {lines : List ℕ} {s : ℕ} {r : code.Line} → IsLine lines s r → hangs k v (line_of r) ≡ hangs_at lines k v s
 unfolding hangs_at hangs
 hangs_is k v {lines} {s} {r} e = λ i. hangs k v (record { slot = 0; a = e.a_is i; b = e.b_is i })
+
+pub hangs_told : (k : Block) (v : Point) {lines : List ℕ} {s : ℕ} {r : code.Line} {b : Bool} → IsLine lines s r → b ≡ hangs k v (line_of r) → b ≡ hangs_at lines k v s
+hangs_told k v e t = t ∙ hangs_is k v e
 
 every_map : (lines : List ℕ) (k : Block) (v : Point) (xs : List ℕ) → every (hangs_at lines k v) xs ≡ every (hangs k v) (map (line_at lines) xs)
 unfolding every hangs_at
@@ -188,36 +194,29 @@ every_map lines k v [] = refl
 every_map lines k v (x ∷ xs) = ap (λ (z : Bool). elim (hangs k v (line_at lines x)) [ true ↦ z | false ↦ false ]) (every_map lines k v xs)
 
 -- ---- the cases of the code
+pub both_told : {p q a b t : Bool} → p ≡ a → q ≡ b → p && q ≡ t → a && b ≡ t
+both_told e f h = sym (ap₂ (λ (p q : Bool). p && q) e f) ∙ h
+
+pub first_candidate : {lines : List ℕ} {k : Block} {slots : List ℕ} {x : ℕ} {rest : List ℕ} → slots ≡ x ∷ rest → Candidates lines k slots → Candidate lines k x
+first_candidate {x = x} e c = c x (rw e (Memᴰ.head refl))
+
 pub no_candidate : (lines : List ℕ) (k : Block) (slots : List ℕ) → length slots ≡ 0 → true ≡ simple (map (line_at lines) slots) k
 unfolding simple simple_with those ends_of
 no_candidate lines k [] e = refl
 no_candidate lines k (x ∷ xs) e = absurd (omega arith)
 
 -- r is the line of the first slot
-pub record First (lines : List ℕ) (k : Block) (slots : List ℕ) (r : code.Line) : Type 0 where
-  pub some : length slots ≡ 0 → ⊥
+pub record First (lines : List ℕ) (k : Block) (slots : List ℕ) (x : ℕ) (rest : List ℕ) (r : code.Line) : Type 0 where
+  pub whole : slots ≡ x ∷ rest
   pub candidates : Candidates lines k slots
-  pub is : IsLine lines (get_or slots 0 0) r
+  pub is : IsLine lines x r
 
-module _ {lines : List ℕ} {k : Block} {slots : List ℕ} {r : code.Line} (f : First lines k slots r) where
-  abbrev x : ℕ
-  x = get_or slots 0 0
-
-  abbrev pub rest : List ℕ
-  rest = take (length slots - 1) (drop 1 slots)
-
-  whole : x ∷ rest ≡ slots
-  whole = go slots f.some
-    where
-      go : (l : List ℕ) → (length l ≡ 0 → ⊥) → get_or l 0 0 ∷ take (length l - 1) (drop 1 l) ≡ l
-      go [] f = absurd (f refl)
-      go (y ∷ ys) f = ap (λ (z : List ℕ). y ∷ z) (take_all (length (y ∷ ys) - 1) ys (omega arith))
-
+module _ {lines : List ℕ} {k : Block} {slots : List ℕ} {x : ℕ} {rest : List ℕ} {r : code.Line} (f : First lines k slots x rest r) where
   all_is : simple (line_at lines x ∷ map (line_at lines) rest) k ≡ simple (map (line_at lines) slots) k
-  all_is = ap (λ (z : List ℕ). simple (map (line_at lines) z) k) whole
+  all_is = ap (λ (z : List ℕ). simple (map (line_at lines) z) k) (sym f.whole)
 
   candidate : {s : ℕ} → Memᴰ s (x ∷ rest) → Candidate lines k s
-  candidate {s} m = f.candidates s (subst (λ (z : List ℕ). Memᴰ s z) whole m)
+  candidate {s} m = f.candidates s (subst (λ (z : List ℕ). Memᴰ s z) (sym f.whole) m)
 
   met : {s : ℕ} → Memᴰ s (x ∷ rest) → meets k (line_at lines s) ≡ true
   met m = (candidate m).met
@@ -257,22 +256,22 @@ module _ {lines : List ℕ} {k : Block} {slots : List ℕ} {r : code.Line} (f : 
         simple_alone k (line_at lines x) (first ∙ ha) (second ∙ hb) (met (Memᴰ.head refl))
         ∙ ap (λ (z : List ℕ). simple (line_at lines x ∷ map (line_at lines) z) k) (sym e) ∙ all_is
 
-    pub many : (length slots ≡ 1 → ⊥) → false ≡ simple (map (line_at lines) slots) k
+    pub many : (length rest ≡ 0 → ⊥) → false ≡ simple (map (line_at lines) slots) k
     many n = go rest refl
       where
         go : (l : List ℕ) → rest ≡ l → false ≡ simple (map (line_at lines) slots) k
-        go [] e = absurd (n (ap length (sym whole ∙ ap (λ (z : List ℕ). x ∷ z) e)))
+        go [] e = absurd (n (ap length e))
         go (y ∷ ys) e =
             simple_many k (line_at lines x) (first ∙ ha) (second ∙ hb) (met (Memᴰ.head refl)) (line_at lines y) (map (line_at lines) ys) (met (Memᴰ.tail (rw e (Memᴰ.head refl))))
             ∙ ap (λ (z : List ℕ). simple (line_at lines x ∷ map (line_at lines) z) k) (sym e) ∙ all_is
 
-  pub alone : length slots ≡ 1 → inside k r.a && inside k r.b ≡ false → true ≡ simple (map (line_at lines) slots) k
+  pub alone : length rest ≡ 0 → inside k r.a && inside k r.b ≡ false → true ≡ simple (map (line_at lines) slots) k
   alone n h = go (inside k r.a) refl (inside k r.b) refl
     where
       none : rest ≡ []
-      none = empty rest (ap length whole ∙ n)
+      none = empty rest n
         where
-          empty : (l : List ℕ) → suc (length l) ≡ 1 → l ≡ []
+          empty : (l : List ℕ) → length l ≡ 0 → l ≡ []
           empty [] e = refl
           empty (y ∷ ys) e = absurd (omega arith)
 

@@ -26,14 +26,7 @@ pub fn all_hang_on(lines: &[u16], slots: &[u16], k: Block, v: Point) -> bool
     requires { Candidates lines.now (block_of k) slots.now }
     ensures { result ≡ every (hangs_at lines.now (block_of k) v) slots.now }
 {
-    let mut i: usize = 0;
-    while i < slots.len() {
-        if !hangs_on(k, line_at(lines, slots[i]), v) {
-            return false;
-        }
-        i += 1;
-    }
-    true
+    slots.iter().all(|&s| hangs_on(k, line_at(lines, s), v))
 }
 
 // C1, C2' and C3, of the slots of the lines that meet the block: an end of the first of them decides.
@@ -41,23 +34,23 @@ pub fn simple(lines: &[u16], slots: &[u16], k: Block) -> bool
     requires { Candidates lines.now (block_of k) slots.now }
     ensures { result ≡ simpleOf (map (line_at lines.now) slots.now) (block_of k) }
 {
-    if slots.len() == 0 {
+    let Some((&slot, others)) = slots.split_first() else {
         return true;
-    }
-    let l = line_at(lines, slots[0]);
+    };
+    let l = line_at(lines, slot);
     let first = inside(k, l.a);
     let second = inside(k, l.b);
     if first & second {
         return false;
     }
-    if slots.len() == 1 {
+    if others.is_empty() {
         return true;
     }
     if first {
-        return all_hang_on(lines, &slots[1..], k, l.a);
+        return all_hang_on(lines, others, k, l.a);
     }
     if second {
-        return all_hang_on(lines, &slots[1..], k, l.b);
+        return all_hang_on(lines, others, k, l.b);
     }
     false
 }

@@ -1,34 +1,20 @@
-use mathlib.Core.Path.{sym, ap, ◌∙◌}
-use native.Mathlib.Omega.{arith}
-use lib.Seq.{take_all}
-use borrow.Author.Rules.{rules}
-use Rattle.algebra.specs.Lists.{mem_at}
-use Rattle.algebra.specs.Words.{every}
-use Rattle.rule.proofs.Rule.{every_turn, every_not, hangs_is}
+use Rattle.std.proofs.Common.{rules, ◌∙◌}
+use borrow.Author.Tests.{tests}
+use Rattle.std.proofs.lemmas.Iterator.{YieldsList-from_slice}
+use Rattle.std.proofs.lemmas.Iterator.Adapters.{serves_from_places}
+use Rattle.std.proofs.lemmas.Iterator.Search.{all_from_yields_List}
+use Rattle.geometry.specs.Means.{block_of}
+use Rattle.rule.specs.Rule.{hangs_at}
+use Rattle.rule.proofs.Rule.{mem_place, every_all, hangs_told}
 use Rattle.rule.proofs.all_hang_on.Goals as goal
 
-pub loop-i-init : goal.loop-i-init
-unfolding every
-loop-i-init c = search rules
-
-pub line_at-requires : goal.line_at-requires
-line_at-requires c =
-    (c.requires _ (mem_at c.args.slots.now c.loop-i.i c.loop-i-test.true)).good.on_map
-
-pub returns-then-not-hangs_on : goal.returns-then-not-hangs_on
-returns-then-not-hangs_on c =
-    let slots = c.args.slots.now in
-    every_not _ slots _ (mem_at slots c.loop-i.i c.loop-i-test.true)
-    (sym (hangs_is _ _ c.line_at.ensures) ∙ sym c.hangs_on.ensures ∙ c.if-not-hangs_on.true)
-
-pub loop-i-preserved : goal.loop-i-preserved
-loop-i-preserved c =
-    let slots = c.args.slots.now in (
-      omega arith,
-      every_turn _ slots c.loop-i.i c.loop-i.invariant.1 c.loop-i-test.true
-          (sym (hangs_is _ _ c.line_at.ensures) ∙ sym c.hangs_on.ensures ∙ c.if-not-hangs_on.false),
-    )
+pub all-requires-clause-callable : goal.all-requires-clause-callable
+all-requires-clause-callable c =
+    serves_from_places (YieldsList-from_slice c.args.slots.now cc) (λ x q k. search (rules, tests))
+    (λ x k a b. let m = (c.requires x.now (mem_place c.args.slots.now k a b)).good.on_map in search rules)
 
 pub returns : goal.returns
 returns c =
-    sym c.loop-i.invariant.1 ∙ ap (every _) (take_all c.loop-i.i c.args.slots.now c.loop-i-test.false)
+    all_from_yields_List (hangs_at c.args.lines.now (block_of c.args.k) c.args.v) _ _ _ c.all.ensures.ran (YieldsList-from_slice c.args.slots.now cc)
+    (λ x b q k. (search (rules, tests), search (rules, hangs_told)))
+    ∙ every_all _ c.args.slots.now
