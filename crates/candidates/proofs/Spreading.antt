@@ -6,6 +6,7 @@ use Prim.Native.Nat.{ℕ, ◌+◌, ◌-◌, ◌*◌, ◌≤◌, ◌<◌}
 use native.Mathlib.Nat.{add-zero}
 use native.Mathlib.Numerals.{add-one}
 use native.Mathlib.Omega.{arith}
+use Rattle.std.specs.Int.{from_bool}
 use lib.ListN.{length, take, get_or, set, length-set}
 use lib.Seq.{slice, get_or-drop, get_or-take, take-set-le, get_or-set_same, get_or-set_other, slice_empty, length-slice}
 use Rattle.algebra.specs.Lists.{those_append, one_yes, one_no, slice_same, slice_snoc, slice_high, slice_low, mem_at}
@@ -18,7 +19,7 @@ use Rattle.geometry.specs.declared.Met.{Met}
 use Rattle.geometry.specs.Means.{line_of, SonsAsked, SonsMet}
 use Rattle.tables.specs.Rows.{OnMap, IsLine, line_ends}
 use Rattle.candidates.specs.declared.Span.{Span}
-use Rattle.candidates.specs.Spread.{digit, meets_at, Spreadable, Son}
+use Rattle.candidates.specs.Spread.{meets_at, Spreadable, Son}
 
 -- ---- one list: its part at .. end holds those of the first candidates that pass
 pub record Fills (p : ℕ → Bool) (slots₀ slots : List ℕ) (from i at end : ℕ) : Type 0 where
@@ -35,7 +36,7 @@ module _ (p : ℕ → Bool) (s₀ l l' : List ℕ) (from i at end v : ℕ) (f : 
   more : those p (slice from (i + 1) s₀) ≡ those p (slice from i s₀) ++ those p (v ∷ [])
   more = rw (add-one i, slice_snoc from i s₀ lo hi, this) (those_append p (slice from i s₀) (v ∷ []))
 
-  fills_turn : (t : Bool) → p v ≡ t → Fills p s₀ l' from (i + 1) at (end + digit t)
+  fills_turn : (t : Bool) → p v ≡ t → Fills p s₀ l' from (i + 1) at (end + from_bool t)
   fills_turn true e =
       let u = f.up in
       let w = f.few in
@@ -150,7 +151,7 @@ module _ {lines s₀ : List ℕ} {c : Span} {kb : Block} (asked : Spreadable lin
       sons_asked = record { wide = asked.wide; tall = asked.tall; ends = line_ends (asked.on_map v among) e; even = asked.even; met = meets_ends kb (line_of r) (line_at lines v) (e.a_is, e.b_is) ∙ asked.met v among }
 
       module _ (m : Met) (q : SonsMet kb (line_of r) m.nw m.ne m.sw m.se) where
-        pub turned_on : Turned lines kb c.from c.to c.free n s₀ (put4 slots v nw ne sw se) (nw + digit m.nw) (ne + digit m.ne) (sw + digit m.sw) (se + digit m.se) (i + 1)
+        pub turned_on : Turned lines kb c.from c.to c.free n s₀ (put4 slots v nw ne sw se) (nw + from_bool m.nw) (ne + from_bool m.ne) (sw + from_bool m.sw) (se + from_bool m.se) (i + 1)
         turned_on =
             record {
               lo = omega arith;
@@ -188,19 +189,19 @@ module _ {lines s₀ : List ℕ} {c : Span} {kb : Block} (asked : Spreadable lin
             o4 = omega arith
 
             turn : (k : Block) (at end : ℕ) → Fills (meets_at lines k) s₀ slots c.from i at end → end < length l' → get_or l' end 0 ≡ v → slice at end l' ≡ slice at end slots
-                → (b : Bool) → b ≡ meets k (line_of r) → Fills (meets_at lines k) s₀ l' c.from (i + 1) at (end + digit b)
+                → (b : Bool) → b ≡ meets k (line_of r) → Fills (meets_at lines k) s₀ l' c.from (i + 1) at (end + from_bool b)
             turn k at end f room put same b d = fills_turn _ s₀ slots l' c.from i at end v f t.lo in_table this_is room put same b (sym (met_is k e) ∙ sym d)
 
   -- a son's span, once every candidate is spread
   pub son_done : {p : ℕ → Bool} {at end i : ℕ} {slots : List ℕ} (r : Span) → c.to ≤ i → i ≤ c.to → at + n ≤ c.free + 4 * n
-      → Fills p s₀ slots c.from i at end → (r.from ≡ at) × (r.to ≡ end) × (r.free ≡ c.free + n + n + n + n) → Son c.free n (those p (slice c.from c.to s₀)) slots r
+      → Fills p s₀ slots c.from i at end → r ≡ record { from = at; to = end; free = c.free + n + n + n + n } → Son c.free n (those p (slice c.from c.to s₀)) slots r
   son_done {p} {at} {end} {i} {slots} r lo hi room f e =
       let u = f.up in
       let q = f.few in
       let w = asked.span in
-      let ef = e.0 in
-      let et = e.1 in
-      let en = e.2 in
+      let ef = ap (λ (s : Span). s.from) e in
+      let et = ap (λ (s : Span). s.to) e in
+      let en = ap (λ (s : Span). s.free) e in
       record {
         span = omega arith;
         few = omega arith;

@@ -1,5 +1,5 @@
 -- The candidates of the four sons: what a spread asks, and what it leaves.
-use Rattle.std.specs.Prelude.{◌≡◌, Bool, true, false, ℕ, ◌+◌, ◌*◌, ◌-◌, ◌/◌, ◌≤◌, length, take}
+use Rattle.std.specs.Prelude.{◌≡◌, Bool, true, ℕ, ◌+◌, ◌*◌, ◌-◌, ◌/◌, ◌≤◌, length, take}
 use mathlib.Core.List.{List, Memᴰ}
 use Rattle.std.proofs.Math.Seq.{slice}
 use Rattle.algebra.specs.Words.{those}
@@ -11,10 +11,6 @@ use Rattle.candidates.specs.declared.Spans.{Spans}
 
 unfoldable pub meets_at : List ℕ → Block → ℕ → Bool
 meets_at lines k s = meets k (line_at lines s)
-
-abbrev pub digit : Bool → ℕ
-digit true = 1
-digit false = 0
 
 pub record Spreadable (lines slots : List ℕ) (c : Span) (k : Block) : Type 0 where
   pub on_map : (s : ℕ) → Memᴰ s (slice c.from c.to slots) → OnMap lines s

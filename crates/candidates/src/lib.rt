@@ -3,7 +3,7 @@
 
 ghost use Rattle.std.specs.Prelude.{◌≡◌, ◌≤◌};
 ghost use Rattle.geometry.specs.Means.{block_of};
-ghost use Rattle.candidates.specs.Spread.{digit, Spreadable, Spread};
+ghost use Rattle.candidates.specs.Spread.{Spreadable, Spread};
 
 use geometry::{Block, sons_met};
 use tables::line_at;
@@ -16,6 +16,14 @@ pub struct Span {
     pub free: usize,
 }
 
+impl Span {
+    pub fn new(from: usize, to: usize, free: usize) -> Span
+        ensures { result ≡ record { from = from; to = to; free = free } }
+    {
+        Span { from, to, free }
+    }
+}
+
 // The candidates of the four sons.
 #[derive(Clone, Copy)]
 pub struct Spans {
@@ -23,18 +31,6 @@ pub struct Spans {
     pub ne: Span,
     pub sw: Span,
     pub se: Span,
-}
-
-pub fn span_of(from: usize, to: usize, free: usize) -> Span
-    ensures { (result.from ≡ from) × (result.to ≡ to) × (result.free ≡ free) }
-{
-    Span { from, to, free }
-}
-
-pub fn one(b: bool) -> usize
-    ensures { (result ≡ digit b) × (result ≤ 1) }
-{
-    if b { 1 } else { 0 }
 }
 
 // Each candidate put to the lists of the sons that it meets, each list having room for all.
@@ -52,25 +48,23 @@ pub fn spread(lines: &[u16], slots: &mut [u16], c: Span, k: Block) -> Spans
     let mut ne = second;
     let mut sw = third;
     let mut se = fourth;
-    let mut i = c.from;
-    while i < c.to {
+    for i in c.from..c.to {
         let s = slots[i];
         let m = sons_met(k, line_at(lines, s));
         slots[nw] = s;
         slots[ne] = s;
         slots[sw] = s;
         slots[se] = s;
-        nw += one(m.nw);
-        ne += one(m.ne);
-        sw += one(m.sw);
-        se += one(m.se);
-        i += 1;
+        nw += usize::from(m.nw);
+        ne += usize::from(m.ne);
+        sw += usize::from(m.sw);
+        se += usize::from(m.se);
     }
     let free = fourth + n;
     Spans {
-        nw: span_of(first, nw, free),
-        ne: span_of(second, ne, free),
-        sw: span_of(third, sw, free),
-        se: span_of(fourth, se, free),
+        nw: Span::new(first, nw, free),
+        ne: Span::new(second, ne, free),
+        sw: Span::new(third, sw, free),
+        se: Span::new(fourth, se, free),
     }
 }

@@ -1,5 +1,4 @@
 use native.Mathlib.Omega.{arith}
-use lib.ListN.{length-set}
 use Rattle.candidates.proofs.Spreading.{turned_none, turned_on, on_map, sons_asked, son_done}
 use Rattle.candidates.proofs.spread.Goals as goal
 
@@ -7,29 +6,14 @@ pub loop-i-init : goal.loop-i-init
 loop-i-init c = turned_none c.requires
 
 pub line_at-requires : goal.line_at-requires
-line_at-requires c =
-    on_map c.requires c.loop-i.invariant c.loop-i-test.true
+line_at-requires c = on_map c.requires c.loop-i.invariant c.loop-i-test.true
 
 pub sons_met-m-requires : goal.sons_met-m-requires
-sons_met-m-requires c =
-    sons_asked c.requires c.loop-i.invariant c.loop-i-test.true c.line_at.ensures
-
-pub bounds-slots-ne : goal.bounds-slots-ne
-bounds-slots-ne c = simp length-set (omega arith)
-
-pub bounds-slots-sw : goal.bounds-slots-sw
-bounds-slots-sw c = simp length-set (omega arith)
-
-pub bounds-slots-se : goal.bounds-slots-se
-bounds-slots-se c = simp length-set (omega arith)
-
-pub overflow_add-se : goal.overflow_add-se
-overflow_add-se c =
-    omega (arith, c.one-se.ensures, c.loop-i.invariant, c.requires, c.loop-i-test.true)
+sons_met-m-requires c = sons_asked c.requires c.loop-i.invariant c.loop-i-test.true c.line_at.ensures
 
 pub loop-i-preserved : goal.loop-i-preserved
 loop-i-preserved c =
-    rw (c.one-nw.ensures.0, c.one-ne.ensures.0, c.one-sw.ensures.0, c.one-se.ensures.0)
+    rw (c.from-nw.ensures, c.from-ne.ensures, c.from-sw.ensures, c.from-se.ensures)
     (turned_on c.requires c.loop-i.invariant c.loop-i-test.true c.line_at.ensures c.sons_met-m.result c.sons_met-m.ensures)
 
 pub returns : goal.returns
@@ -38,8 +22,8 @@ returns c =
     let p = c.requires in
     record {
       below = v.below;
-      nw = son_done p _ c.loop-i-test.false v.hi (omega arith) v.f_nw c.span_of.ensures;
-      ne = son_done p _ c.loop-i-test.false v.hi (omega arith) v.f_ne c.span_of-2.ensures;
-      sw = son_done p _ c.loop-i-test.false v.hi (omega arith) v.f_sw c.span_of-3.ensures;
-      se = son_done p _ c.loop-i-test.false v.hi (omega arith) v.f_se c.span_of-4.ensures;
+      nw = son_done p _ c.loop-i-test.false v.hi (omega arith) v.f_nw c.new.ensures;
+      ne = son_done p _ c.loop-i-test.false v.hi (omega arith) v.f_ne c.new-2.ensures;
+      sw = son_done p _ c.loop-i-test.false v.hi (omega arith) v.f_sw c.new-3.ensures;
+      se = son_done p _ c.loop-i-test.false v.hi (omega arith) v.f_se c.new-4.ensures;
     }
