@@ -40,9 +40,9 @@ module _ (f : ℕ → ℕ) (slots : List ℕ) where
   summed_start = record { whole = omega arith; small = omega arith }
 
 module _ {f : ℕ → ℕ} {slots : List ℕ} {x i : ℕ} where
-  pub summed_turn : {n r : ℕ} → i < length slots → n ≡ f (get_or slots i 0) → (r ≡ x + n) × (r ≤ 65535 * (i + 1)) → Summed f slots x i → Summed f slots r (i + 1)
+  pub summed_turn : {n : ℕ} → i < length slots → n ≡ f (get_or slots i 0) → n ≤ 65535 → Summed f slots x i → Summed f slots (x + n) (i + 1)
   unfolding sum_of
-  summed_turn h e a q = record { whole = omega (arith, q.whole, ap (sum_of f) (drop_next slots i h), a.0, e); small = a.1 }
+  summed_turn h e m q = record { whole = omega (arith, q.whole, ap (sum_of f) (drop_next slots i h), e); small = omega (arith, q.small) }
 
   pub summed_end : length slots ≤ i → Summed f slots x i → x ≡ sum_of f slots
   unfolding sum_of

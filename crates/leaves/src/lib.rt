@@ -14,7 +14,7 @@ ghost use Rattle.leaves.specs.Pass.{clear_of, leaf_apart, Good, TreeUsed};
 
 use definitions::{Half, Point};
 use geometry::{Line, conflict, left, same_point, turn};
-use tables::{line_at, wide};
+use tables::line_at;
 
 // To test the pairs of fewer lines costs less than to part them.
 const FEW: usize = 12;
@@ -33,14 +33,7 @@ pub fn conflicts_with(lines: &[u16], slots: &[u16], l: Line) -> bool
     requires { Good lines.now slots.now × (same_point l.a l.b ≡ false) × LineEnds (line_of l) }
     ensures { result ≡ not (clear_of lines.now (line_of l) slots.now) }
 {
-    let mut i: usize = 0;
-    while i < slots.len() {
-        if conflict(l, line_at(lines, slots[i])) {
-            return true;
-        }
-        i += 1;
-    }
-    false
+    slots.iter().any(|&s| conflict(l, line_at(lines, s)))
 }
 
 // The lines of two of the slots conflict: each is tested with those after it.
@@ -48,11 +41,8 @@ pub fn pairs_conflict(lines: &[u16], slots: &[u16]) -> bool
     requires { Good lines.now slots.now }
     ensures { result ≡ not (leaf_apart lines.now slots.now) }
 {
-    let mut next: usize = 0;
-    while next < slots.len() {
-        let l = line_at(lines, slots[next]);
-        next += 1;
-        if conflicts_with(lines, &slots[next..], l) {
+    for (i, &s) in slots.iter().enumerate() {
+        if conflicts_with(lines, &slots[i + 1..], line_at(lines, s)) {
             return true;
         }
     }
@@ -71,14 +61,7 @@ pub fn all_end_at(lines: &[u16], slots: &[u16], v: Point) -> bool
     requires { Good lines.now slots.now }
     ensures { result ≡ every (ends_at lines.now v) slots.now }
 {
-    let mut seen: usize = 0;
-    while seen < slots.len() {
-        if !ends_at(line_at(lines, slots[seen]), v) {
-            return false;
-        }
-        seen += 1;
-    }
-    true
+    slots.iter().all(|&s| ends_at(line_at(lines, s), v))
 }
 
 // The end of the line that is not v.
@@ -105,26 +88,15 @@ pub fn keep(lines: &[u16], slots: &[u16], kept: &mut [u16], v: Point, w: Point, 
     ensures { Kept (on_side lines.now v w side) slots.now kept.new result }
 {
     let mut n: usize = 0;
-    let mut read: usize = 0;
-    while read < slots.len() {
-        let s = slots[read];
+    for &s in slots {
         let left = leaves_left(line_at(lines, s), v, w);
         let here = left == side;
         if here {
             kept[n] = s;
             n += 1;
         }
-        read += 1;
     }
     n
-}
-
-// A number added to the sum of so many before it.
-pub fn add_to(sum: usize, n: u16, count: usize) -> usize
-    requires { (sum ≤ 65535 * count) × (count ≤ 1024) }
-    ensures { (result ≡ sum + n) × (result ≤ 65535 * (count + 1)) }
-{
-    sum + (n as usize)
 }
 
 // The mean of so many numbers, by their sum.
@@ -142,12 +114,10 @@ pub fn mean_end(lines: &[u16], slots: &[u16], v: Point) -> Point
 {
     let mut x: usize = 0;
     let mut y: usize = 0;
-    let mut read: usize = 0;
-    while read < slots.len() {
-        let far = far_end(line_at(lines, slots[read]), v);
-        x = add_to(x, far.x.0, read);
-        y = add_to(y, far.y.0, read);
-        read += 1;
+    for &s in slots {
+        let far = far_end(line_at(lines, s), v);
+        x += usize::from(far.x.0);
+        y += usize::from(far.y.0);
     }
     let n = slots.len();
     Point {
@@ -230,9 +200,8 @@ pub fn conflicts_in_leaves(lines: &[u16], nodes: &[u16], listings: &[u16], used:
     ensures { result ≡ not (none_conflict lines.now) }
 {
     let mut at: usize = 0;
-    let mut node: usize = 0;
-    while node < used {
-        let n = wide(nodes[node]);
+    for &node in &nodes[..used] {
+        let n = usize::from(node);
         if n != DIVIDED {
             let e = at + n;
             if ALONE < n && leaf_conflicts(lines, &listings[at..e]) {
@@ -240,7 +209,6 @@ pub fn conflicts_in_leaves(lines: &[u16], nodes: &[u16], listings: &[u16], used:
             }
             at = e;
         }
-        node += 1;
     }
     false
 }

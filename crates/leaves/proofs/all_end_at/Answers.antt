@@ -1,29 +1,20 @@
-use mathlib.Core.Path.{sym, ap, ◌∙◌}
-use Prim.Native.Nat.{◌<◌}
-use native.Mathlib.Omega.{arith}
-use lib.ListN.{length, drop_of_length-le}
-use Rattle.algebra.specs.Words.{every}
-use Rattle.leaves.proofs.Turns.{good_at}
-use Rattle.leaves.proofs.Fan.{ends_is, every_turn}
+use Rattle.std.proofs.Common.{rules, ◌∙◌}
+use borrow.Author.Tests.{tests}
+use Rattle.std.proofs.lemmas.Iterator.{YieldsList-from_slice}
+use Rattle.std.proofs.lemmas.Iterator.Adapters.{serves_from_places}
+use Rattle.std.proofs.lemmas.Iterator.Search.{all_from_yields_List}
+use Rattle.leaves.specs.Sides.{ends_at}
+use Rattle.leaves.proofs.Turns.{good_in, parts, every_all}
+use Rattle.leaves.proofs.Fan.{ends_told}
 use Rattle.leaves.proofs.all_end_at.Goals as goal
 
-pub line_at-requires : goal.line_at-requires
-line_at-requires c =
-    let h : c.loop-seen.seen < length c.args.slots.now = omega arith in
-    (good_at c.requires h).on_map
-
-pub returns-then-not-ends_at : goal.returns-then-not-ends_at
-returns-then-not-ends_at c =
-    let h : c.loop-seen.seen < length c.args.slots.now = omega arith in
-    sym (c.loop-seen.invariant ∙ every_turn _ c.args.slots.now c.loop-seen.seen h
-    (sym (ends_is _ c.line_at.ensures) ∙ sym c.ends_at.ensures ∙ c.if-not-ends_at.true))
-
-pub loop-seen-preserved : goal.loop-seen-preserved
-loop-seen-preserved c =
-    let h : c.loop-seen.seen < length c.args.slots.now = omega arith in
-    c.loop-seen.invariant ∙ every_turn _ c.args.slots.now c.loop-seen.seen h
-    (sym (ends_is _ c.line_at.ensures) ∙ sym c.ends_at.ensures ∙ c.if-not-ends_at.false)
+pub all-requires-clause-callable : goal.all-requires-clause-callable
+all-requires-clause-callable c =
+    serves_from_places (YieldsList-from_slice _ c.iter.ensures.rest) (λ x q k. search (rules, tests))
+    (λ x k a b. let m = (good_in c.requires (search parts) a b).on_map in search rules)
 
 pub returns : goal.returns
-unfolding every
-returns c = sym (c.loop-seen.invariant ∙ ap (every _) (drop_of_length-le c.args.slots.now c.loop-seen-test.false))
+returns c =
+    all_from_yields_List (ends_at c.args.lines.now c.args.v) _ _ _ c.all.ensures.ran (YieldsList-from_slice _ c.iter.ensures.rest)
+    (λ x b q k. (search (rules, tests), search (rules, ends_told)))
+    ∙ every_all _ c.args.slots.now

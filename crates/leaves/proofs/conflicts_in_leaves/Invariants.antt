@@ -1,10 +1,6 @@
 -- `leaves::conflicts_in_leaves` meets its contract. The invariant: the leaves ahead decide.
-use Prim.Native.Nat.{◌-◌}
 use Rattle.leaves.proofs.Ahead.{Ahead}
 use Rattle.leaves.proofs.conflicts_in_leaves.Given as goal
 
 abbrev pub invariant-loop-node : goal.invariant-loop-node
-invariant-loop-node l = Ahead l.lines l.nodes l.listings l.used l.at l.node
-
-abbrev pub decreases-loop-node : goal.decreases-loop-node
-decreases-loop-node l = l.used - l.node
+invariant-loop-node l = Ahead l.lines l.nodes l.listings l.used l.at l.node-index
