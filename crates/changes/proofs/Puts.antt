@@ -6,6 +6,7 @@ use Prim.Native.Nat.{ℕ, ◌≤◌}
 use native.Mathlib.Omega.{arith}
 use lib.ListN.{length, take, replicate}
 use Rattle.algebra.specs.Words.{over}
+use Rattle.algebra.specs.Tests.{no_path}
 use Rattle.algebra.specs.Lists.{over_all}
 use Rattle.definitions.specs.Tree.{base_rule}
 use Rattle.definitions.specs.Tables.{Tables, node_table, listing_table}
@@ -15,8 +16,8 @@ use Rattle.tables.specs.declared.Place.{Place}
 use Rattle.tables.specs.declared.Row.{Row}
 use Rattle.tables.specs.Rows.{row_at, entries_of}
 use Rattle.tables.specs.Lent.{tables, as_many, as_listed, lines_short, fronts}
-use Rattle.tree.specs.declared.Built.{Built}
-use Rattle.tree.specs.declared.Built.TheVariants.{Next, NoRoom}
+use Rattle.std.specs.Prelude.{Option, Some, None}
+use Rattle.std.specs.Option.{is_some}
 use Rattle.tree.specs.Builds.{GoodTable, TreeBuilt}
 use Rattle.tree.specs.Whole.{good_table, TablesAre, tables_are, has_room, no_room}
 use Rattle.changes.specs.Changing.{Room, Putting, Put}
@@ -27,6 +28,14 @@ unfolding entries_of
 eight r = refl
 
 -- ---- put
+none_is : {T : Type 0} (o : Option T) → is_some o ≡ false → o ≡ None
+none_is None e = refl
+none_is (Some x) e = no_path (sym e)
+
+some_is : {T : Type 0} (o : Option T) → is_some o ≡ true → (x : T) × (o ≡ Some x)
+some_is None e = no_path e
+some_is (Some x) e = (x, refl)
+
 module _ {lines nodes listings built named : List ℕ} {slot : ℕ} {row : Row} (w : Putting lines nodes listings slot row built named) where
   abbrev before : Tables
   before = tables lines nodes listings
@@ -41,10 +50,10 @@ module _ {lines nodes listings built named : List ℕ} {slot : ℕ} {row : Row} 
         short : length new ≤ 8192
         short = omega (arith, same_length lines (entries_of row) slot (eight row) w.room.there, lines_short lines nodes listings w.room.fit)
 
-    module _ {built' named' : List ℕ} {r : Built} (b : TreeBuilt lines₁ built named built' named' r) where
-      pub not_put : r ≡ NoRoom → {old : Row} → old ≡ row_at lines slot → {lines₂ : List ℕ} → lines₂ ≡ with_slot lines₁ slot (entries_of old) → Put base_rule before new (tables lines₂ nodes listings) false
+    module _ {built' named' : List ℕ} {r : Option Place} (b : TreeBuilt lines₁ built named built' named' r) where
+      pub not_put : is_some r ≡ false → {old : Row} → old ≡ row_at lines slot → {lines₂ : List ℕ} → lines₂ ≡ with_slot lines₁ slot (entries_of old) → Put base_rule before new (tables lines₂ nodes listings) false
       not_put e {old} o {lines₂} back = (
-        subst (λ (z : List ℕ). room_for base_rule before z ≡ false) is (no_room b before (as_many w.scratch) (as_listed w.scratch) e),
+        subst (λ (z : List ℕ). room_for base_rule before z ≡ false) is (no_room b before (as_many w.scratch) (as_listed w.scratch) (none_is r e)),
         λ i. tables (again i) nodes listings,
       )
         where
@@ -53,7 +62,10 @@ module _ {lines nodes listings built named : List ℕ} {slot : ℕ} {row : Row} 
               back ∙ ap (λ (z : List ℕ). with_slot z slot (entries_of old)) is ∙ ap (λ (z : Row). with_slot new slot (entries_of z)) o
               ∙ back_again lines (entries_of row) slot (eight row) w.room.there
 
-      module _ {p : Place} (e : r ≡ Next p) where
+      module _ (some : is_some r ≡ true) where
+        e : r ≡ Some (some_is r some).0
+        e = (some_is r some).1
+
         pub put : length built' ≡ length nodes → length named' ≡ length listings → {nodes' listings' : List ℕ} → nodes' ≡ over 0 built' nodes → listings' ≡ over 0 named' listings
             → Put base_rule before new (tables lines₁ nodes' listings') true
         unfolding rebuilt

@@ -17,8 +17,8 @@ use Rattle.meaning.specs.Sound.{sound→, fits_nodes, fits_listings}
 use Rattle.tables.specs.declared.Row.{Row}
 use Rattle.tables.specs.Rows.{row_at, emptied_row, entries_of, freed_is}
 use Rattle.tables.specs.Lent.{tables, Scratch, as_many, as_listed, lines_short}
-use Rattle.tree.specs.declared.Built.{Built}
-use Rattle.tree.specs.declared.Built.TheVariants.{Next, NoRoom}
+use Rattle.std.specs.Prelude.{Option, Some, None}
+use Rattle.tables.specs.declared.Place.{Place}
 use Rattle.tree.specs.Builds.{GoodTable, TreeBuilt}
 use Rattle.tree.specs.Whole.{good_table, tables_are, no_room}
 use Rattle.changes.specs.Changing.{Taking}
@@ -48,7 +48,7 @@ module _ {lines nodes listings : List ℕ} {slot : ℕ} (w : Taking base_rule li
         (le-leb (length (nodes_of (tree base_rule (live_lines (freed lines slot))))) (length nodes) (omega (arith, u.nodes, fits_nodes base_rule before s)))
         (le-leb (length (listings_of (tree base_rule (live_lines (freed lines slot))))) (length listings) (omega (arith, u.listings, fits_listings base_rule before s)))
 
-    module _ {nodes₁ listings₁ nodes₂ listings₂ : List ℕ} {r : Built} (n : nodes₁ ≡ replicate (length nodes) 0) (m : listings₁ ≡ replicate (length listings) 0)
+    module _ {nodes₁ listings₁ nodes₂ listings₂ : List ℕ} {r : Option Place} (n : nodes₁ ≡ replicate (length nodes) 0) (m : listings₁ ≡ replicate (length listings) 0)
         (b : TreeBuilt lines₁ nodes₁ listings₁ nodes₂ listings₂ r) where
       cleared : Scratch nodes listings nodes₁ listings₁
       cleared = record { no_nodes = n; no_listings = m }
@@ -56,10 +56,10 @@ module _ {lines nodes listings : List ℕ} {slot : ℕ} (w : Taking base_rule li
       pub taken_out : tables lines₁ nodes₂ listings₂ ≡ rebuilt base_rule before (freed lines slot)
       taken_out = go r refl
         where
-          go : (x : Built) → r ≡ x → tables lines₁ nodes₂ listings₂ ≡ rebuilt base_rule before (freed lines slot)
-          go (Next p) q = unfold rebuilt in
+          go : (x : Option Place) → r ≡ x → tables lines₁ nodes₂ listings₂ ≡ rebuilt base_rule before (freed lines slot)
+          go (Some p) q = unfold rebuilt in
               (let t = tables_are b q (length nodes) (length listings) n m in
               λ i. tables (is_freed i) ((t.nodes_are ∙ ap (node_table base_rule (length nodes)) is_freed) i) ((t.listings_are ∙ ap (listing_table base_rule (length listings)) is_freed) i))
-          go NoRoom q =
+          go None q =
               no_path (sym (subst (λ (z : List ℕ). room_for base_rule before z ≡ false) is_freed
               (no_room b before (as_many cleared) (as_listed cleared) q)) ∙ room)

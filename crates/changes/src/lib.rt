@@ -14,7 +14,7 @@ use tables::{
     Row, Slot, all_on_grid, clear, copy, emptied, first_conflict, free_slot, handle_of, no_length,
     put_row, row_at, row_of,
 };
-use tree::{Built, build};
+use tree::build;
 
 // The tables with a slot's row put in place, if there is room for the tree; else they are as they were.
 fn put_line(
@@ -32,10 +32,10 @@ fn put_line(
 {
     let before = row_at(lines, slot);
     put_row(lines, slot, row);
-    let Built::Next(_) = build(lines, built, named) else {
+    if build(lines, built, named).is_none() {
         put_row(lines, slot, before);
         return false;
-    };
+    }
     copy(built, nodes);
     copy(named, listings);
     true

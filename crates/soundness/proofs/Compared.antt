@@ -10,8 +10,7 @@ use Rattle.definitions.specs.Tree.{base_rule}
 use Rattle.definitions.specs.Tables.{sound, none_conflict}
 use Rattle.tables.specs.declared.Place.{Place}
 use Rattle.tables.specs.Lent.{tables, as_many, as_listed, lines_short, listings_short, fronts}
-use Rattle.tree.specs.declared.Built.{Built}
-use Rattle.tree.specs.declared.Built.TheVariants.{Next, NoRoom}
+use Rattle.std.specs.Prelude.{Option, Some, None}
 use Rattle.tree.specs.Builds.{GoodTable, TreeBuilt}
 use Rattle.tree.specs.Whole.{good_table, TablesAre, tables_are}
 use Rattle.tree.specs.Whole as whole
@@ -26,11 +25,11 @@ module _ {lines nodes listings built named : List ℕ} (w : Comparing lines node
   pub good : GoodTable lines
   good = good_table lines (lines_short lines nodes listings w.slotted.fit) w.slotted.slots
 
-  module _ {built' named' : List ℕ} {r : Built} (b : TreeBuilt lines built named built' named' r) where
-    pub none_fits : r ≡ NoRoom → false ≡ sound base_rule (tables lines nodes listings)
+  module _ {built' named' : List ℕ} {r : Option Place} (b : TreeBuilt lines built named built' named' r) where
+    pub none_fits : r ≡ None → false ≡ sound base_rule (tables lines nodes listings)
     none_fits e = sym (no_room base_rule (tables lines nodes listings) (whole.no_room b (tables lines nodes listings) (as_many w.scratch) (as_listed w.scratch) e))
 
-    module _ {p : Place} (e : r ≡ Next p) where
+    module _ {p : Place} (e : r ≡ Some p) where
       abbrev made : TablesAre lines (length nodes) (length listings) built' named'
       made = tables_are b e (length nodes) (length listings) w.scratch.no_nodes w.scratch.no_listings
 

@@ -11,14 +11,14 @@ ghost use Rattle.soundness.specs.Checked.{checked};
 use definitions::Refusal;
 use leaves::conflicts_in_leaves;
 use tables::{Lent, lengths_fit, same, slots_sound};
-use tree::{Built, build};
+use tree::build;
 
 // The tree of the live lines is built anew and compared; then the lines of each leaf are tried against each other.
 fn built_same(t: Lent, built: &mut [u16], named: &mut [u16]) -> bool
     requires { Comparing t.lines.now t.nodes.now t.listings.now built.old named.old }
     ensures { result ≡ sound base_rule (read t.entry) }
 {
-    let Built::Next(end) = build(t.lines, built, named) else {
+    let Some(end) = build(t.lines, built, named) else {
         return false;
     };
     if !same(t.nodes, built) {
@@ -45,10 +45,7 @@ pub fn is_sound(t: Lent) -> bool
     requires { lengths_fit (read t) ≡ true }
     ensures { result ≡ sound base_rule (read t.entry) }
 {
-    if slots_sound(t.lines) {
-        return trees_sound(t);
-    }
-    false
+    slots_sound(t.lines) && trees_sound(t)
 }
 
 // What every call but start asks of the lent tables first: refusal 1 or 2, or nothing.

@@ -12,8 +12,7 @@ use borrow.Rule.Slice.PartMut.{put_mid, post_of}
 use Rattle.algebra.specs.Lists.{over_two, over_length}
 use Rattle.algebra.specs.Words.{over}
 use Rattle.tables.specs.declared.Place.{Place}
-use Rattle.tree.specs.declared.Built.{Built}
-use Rattle.tree.specs.declared.Built.TheVariants.{Next, NoRoom}
+use Rattle.std.specs.Prelude.{Option, Some, None}
 use Rattle.tree.specs.Builds.{Grew, Full, BuiltIs, Grown}
 
 -- ---- lengths and places after a build
@@ -26,8 +25,8 @@ module _ {ns ls : List ℕ} {at p : Place} {s t s₁ t₁ : List ℕ} (g : Grew 
 
 -- ---- one build after another
 module _ (ns ls ms ks : List ℕ) (at p : Place) (s t s₁ t₁ s₂ t₂ : List ℕ) where
-  built_then : Grew ns ls at p s t s₁ t₁ → (r : Built) → BuiltIs ms ks p s₁ t₁ s₂ t₂ r → BuiltIs (ns ++ ms) (ls ++ ks) at s t s₂ t₂ r
-  built_then a (Next q) b =
+  built_then : Grew ns ls at p s t s₁ t₁ → (r : Option Place) → BuiltIs ms ks p s₁ t₁ s₂ t₂ r → BuiltIs (ns ++ ms) (ls ++ ks) at s t s₂ t₂ r
+  built_then a (Some q) b =
       let e = nodes_kept a in
       let f = listings_kept a in
       record {
@@ -38,27 +37,27 @@ module _ (ns ls ms ks : List ℕ) (at p : Place) (s t s₁ t₁ s₂ t₂ : List
         nodes_are = over_two ns ms s s₁ s₂ at.node p.node a.next_node a.nodes_are b.nodes_are;
         listings_are = over_two ls ks t t₁ t₂ at.listing p.listing a.next_listing a.listings_are b.listings_are;
       }
-  built_then a NoRoom (inl h) = let e = nodes_kept a in inl (simp length-append (omega arith))
-  built_then a NoRoom (inr h) = let e = listings_kept a in inr (simp length-append (omega arith))
+  built_then a None (inl h) = let e = nodes_kept a in inl (simp length-append (omega arith))
+  built_then a None (inr h) = let e = listings_kept a in inr (simp length-append (omega arith))
 
 full_more : (ns ls ms ks : List ℕ) (at : Place) (s t : List ℕ) → Full ns ls at s t → Full (ns ++ ms) (ls ++ ks) at s t
 full_more ns ls ms ks at s t (inl h) = inl (simp length-append (omega arith))
 full_more ns ls ms ks at s t (inr h) = inr (simp length-append (omega arith))
 
-module _ {ns ls : List ℕ} {at : Place} {s t s₁ t₁ : List ℕ} {f : ℕ} {w w₁ : List ℕ} {x : Built} (a : Grown ns ls at s t s₁ t₁ f w w₁ x) where
-  grew : {p : Place} → x ≡ Next p → Grew ns ls at p s t s₁ t₁
-  grew e = subst (λ (z : Built). BuiltIs ns ls at s t s₁ t₁ z) e a.built
+module _ {ns ls : List ℕ} {at : Place} {s t s₁ t₁ : List ℕ} {f : ℕ} {w w₁ : List ℕ} {x : Option Place} (a : Grown ns ls at s t s₁ t₁ f w w₁ x) where
+  grew : {p : Place} → x ≡ Some p → Grew ns ls at p s t s₁ t₁
+  grew e = subst (λ (z : Option Place). BuiltIs ns ls at s t s₁ t₁ z) e a.built
 
   -- the next places stand in the tables
-  pub grown_fit : {p : Place} → x ≡ Next p → (p.node ≤ length s₁) × (p.listing ≤ length t₁)
+  pub grown_fit : {p : Place} → x ≡ Some p → (p.node ≤ length s₁) × (p.listing ≤ length t₁)
   grown_fit e = let g = grew e in let n = nodes_kept g in let l = listings_kept g in (omega arith, omega arith)
 
-  pub grown_then : {p : Place} → x ≡ Next p → {ms ks s₂ t₂ w₂ : List ℕ} {r : Built} → Grown ms ks p s₁ t₁ s₂ t₂ f w₁ w₂ r → Grown (ns ++ ms) (ls ++ ks) at s t s₂ t₂ f w w₂ r
+  pub grown_then : {p : Place} → x ≡ Some p → {ms ks s₂ t₂ w₂ : List ℕ} {r : Option Place} → Grown ms ks p s₁ t₁ s₂ t₂ f w₁ w₂ r → Grown (ns ++ ms) (ls ++ ks) at s t s₂ t₂ f w w₂ r
   grown_then {p} e {ms} {ks} {s₂} {t₂} {w₂} {r} b = record { built = built_then ns ls ms ks at p s t s₁ t₁ s₂ t₂ (grew e) r b.built; below = b.below ∙ a.below }
 
   -- no room for the first, none for both
-  pub grown_stop : x ≡ NoRoom → (ms ks : List ℕ) → Grown (ns ++ ms) (ls ++ ks) at s t s₁ t₁ f w w₁ NoRoom
-  grown_stop e ms ks = record { built = full_more ns ls ms ks at s t (subst (λ (z : Built). BuiltIs ns ls at s t s₁ t₁ z) e a.built); below = a.below }
+  pub grown_stop : x ≡ None → (ms ks : List ℕ) → Grown (ns ++ ms) (ls ++ ks) at s t s₁ t₁ f w w₁ None
+  grown_stop e ms ks = record { built = full_more ns ls ms ks at s t (subst (λ (z : Option Place). BuiltIs ns ls at s t s₁ t₁ z) e a.built); below = a.below }
 
   -- seen from further down the list of slots, where it was as in v
   pub grown_low : (g : ℕ) (v : List ℕ) → g ≤ f → take g w ≡ take g v → Grown ns ls at s t s₁ t₁ g v w₁ x
@@ -66,9 +65,9 @@ module _ {ns ls : List ℕ} {at : Place} {s t s₁ t₁ : List ℕ} {f : ℕ} {w
 
 -- ---- a divided block: its own node, then its sons
 module _ (ms ls : List ℕ) (at p : Place) (s t s' t' : List ℕ) (i : p.node ≡ at.node + 1) (j : p.listing ≡ at.listing) where
-  built_divided : (r : Built) → BuiltIs ms ls p (set s at.node 65535) t s' t' r → BuiltIs (65535 ∷ ms) ls at s t s' t' r
+  built_divided : (r : Option Place) → BuiltIs ms ls p (set s at.node 65535) t s' t' r → BuiltIs (65535 ∷ ms) ls at s t s' t' r
   unfolding over
-  built_divided (Next q) b =
+  built_divided (Some q) b =
       let l = length-set s at.node 65535 in
       record {
         next_node = omega arith;
@@ -78,10 +77,10 @@ module _ (ms ls : List ℕ) (at p : Place) (s t s' t' : List ℕ) (i : p.node �
         nodes_are = b.nodes_are ∙ ap (λ (z : ℕ). sets (set s at.node 65535) z ms) (i ∙ add-one at.node);
         listings_are = b.listings_are ∙ ap (λ (z : ℕ). sets t z ls) j;
       }
-  built_divided NoRoom (inl h) = let l = length-set s at.node 65535 in inl (omega arith)
-  built_divided NoRoom (inr h) = inr (omega arith)
+  built_divided None (inl h) = let l = length-set s at.node 65535 in inl (omega arith)
+  built_divided None (inr h) = inr (omega arith)
 
-  pub grown_divided : {f : ℕ} {w w' : List ℕ} {r : Built} → Grown ms ls p (set s at.node 65535) t s' t' f w w' r → Grown (65535 ∷ ms) ls at s t s' t' f w w' r
+  pub grown_divided : {f : ℕ} {w w' : List ℕ} {r : Option Place} → Grown ms ls p (set s at.node 65535) t s' t' f w w' r → Grown (65535 ∷ ms) ls at s t s' t' f w w' r
   grown_divided {r = r} g = record { built = built_divided r g.built; below = g.below }
 
 -- ---- a list laid over the rest of a table is laid over the table

@@ -21,8 +21,7 @@ use Rattle.meaning.specs.Rules.{by_leaf, by_divided}
 use Rattle.tables.specs.declared.Place.{Place}
 use Rattle.candidates.specs.declared.Span.{Span}
 use Rattle.candidates.specs.declared.Spans.{Spans}
-use Rattle.tree.specs.declared.Built.{Built}
-use Rattle.tree.specs.declared.Built.TheVariants.{Next, NoRoom}
+use Rattle.std.specs.Prelude.{Option, Some, None}
 use Rattle.candidates.specs.Spread.{meets_at, Spreadable, Spread, SonOf}
 use Rattle.rule.specs.Rule.{left_whole, Candidates}
 use Rattle.tree.specs.Builds.{BuiltIs, Grown, OfTree, Ready, tree_for, block_nodes, block_listings, sons_nodes, sons_listings}
@@ -124,13 +123,13 @@ module _ (lines slots : List ℕ) (k : Block) where
 
 -- ---- the build of a leaf, of a divided block, and of none
 module _ (lines slots : List ℕ) (k : Block) (level : ℕ) {at : Place} {s t s' t' : List ℕ} {f : ℕ} {w w' : List ℕ} where
-  pub grown_leaf : {r : Built} → IsLeaf lines slots k level → (part : List ℕ) → part ≡ slots → BuiltIs (length part ∷ []) part at s t s' t' r → take f w' ≡ take f w
+  pub grown_leaf : {r : Option Place} → IsLeaf lines slots k level → (part : List ℕ) → part ≡ slots → BuiltIs (length part ∷ []) part at s t s' t' r → take f w' ≡ take f w
       → Grown (block_nodes lines slots level k) (block_listings lines slots level k) at s t s' t' f w w' r
   grown_leaf {r} h part e b same =
       rw (h.node_is, h.listing_is) (record { built = subst (λ (z : List ℕ). BuiltIs (length z ∷ []) z at s t s' t' r) e b; below = same })
 
 pub grown_none : (lines slots : List ℕ) (k : Block) (level : ℕ) (at : Place) (s t : List ℕ) (f : ℕ) (w : List ℕ) → length s ≤ at.node
-    → Grown (block_nodes lines slots level k) (block_listings lines slots level k) at s t s t f w w NoRoom
+    → Grown (block_nodes lines slots level k) (block_listings lines slots level k) at s t s t f w w None
 unfolding block_nodes
 grown_none lines slots k level at s t f w h = let o = some_node (tree_for lines slots level k) in record { built = inl (omega arith); below = refl }
 
@@ -168,13 +167,13 @@ module _ {lines w₀ : List ℕ} {c : Span} {k : Block} {n : ℕ} {at : Place} {
 
   -- ---- after some of the sons: the list of slots is as the spread left it below the sons' free place
   module _ {w₁ : List ℕ} {spans : Spans} (spread : Spread lines k c w₀ w₁ spans) (s t : List ℕ) where
-    pub record SoFar (part : (Block → List ℕ) → List ℕ) (s₁ t₁ w : List ℕ) (x : Built) : Type 0 where
+    pub record SoFar (part : (Block → List ℕ) → List ℕ) (s₁ t₁ w : List ℕ) (x : Option Place) : Type 0 where
       pub grown : Grown (part (block_nodes lines cs n)) (part (block_listings lines cs n)) at s t s₁ t₁ free w₁ w x
       pub slots_kept : length w ≡ length w₀
       pub nodes_kept : length s₁ ≡ length s
       pub listings_kept : length t₁ ≡ length t
 
-    pub no_son : length w₁ ≡ length w₀ → at.node ≤ length s → at.listing ≤ length t → SoFar (λ f. []) s t w₁ (Next at)
+    pub no_son : length w₁ ≡ length w₀ → at.node ≤ length s → at.listing ≤ length t → SoFar (λ f. []) s t w₁ (Some at)
     unfolding over
     no_son len hn hl =
         record {
@@ -184,12 +183,12 @@ module _ {lines w₀ : List ℕ} {c : Span} {k : Block} {n : ℕ} {at : Place} {
           listings_kept = refl;
         }
 
-    module _ {part : (Block → List ℕ) → List ℕ} {s₁ t₁ w : List ℕ} {x : Built} (so : SoFar part s₁ t₁ w x) where
+    module _ {part : (Block → List ℕ) → List ℕ} {s₁ t₁ w : List ℕ} {x : Option Place} (so : SoFar part s₁ t₁ w x) where
       -- all of them, or no room for one
       pub sons_grown : Grown (part (block_nodes lines cs n)) (part (block_listings lines cs n)) at s t s₁ t₁ c.free w₀ w x
       sons_grown = grown_low so.grown c.free w₀ (omega arith) spread.below
 
-      pub sons_stop : x ≡ NoRoom → (b : Block) → SoFar (λ f. part f ++ f b) s₁ t₁ w NoRoom
+      pub sons_stop : x ≡ None → (b : Block) → SoFar (λ f. part f ++ f b) s₁ t₁ w None
       sons_stop e b =
           record {
             grown = grown_stop so.grown e (block_nodes lines cs n b) (block_listings lines cs n b);
@@ -199,7 +198,7 @@ module _ {lines w₀ : List ℕ} {c : Span} {k : Block} {n : ℕ} {at : Place} {
           }
 
       -- the son in block b is next
-      module _ {p : Place} (e : x ≡ Next p) (b kk : Block) (is : kk ≡ b) (o : OfTree b n) {sc : Span} (son : SonOf lines b c w₀ w₁ sc) where
+      module _ {p : Place} (e : x ≡ Some p) (b kk : Block) (is : kk ≡ b) (o : OfTree b n) {sc : Span} (son : SonOf lines b c w₀ w₁ sc) where
         held : slice sc.from sc.to w ≡ those (meets_at lines b) cs
         held = slice_same sc.from sc.to free w₁ w (omega arith) so.grown.below ∙ son.holds
 
@@ -222,7 +221,7 @@ module _ {lines w₀ : List ℕ} {c : Span} {k : Block} {n : ℕ} {at : Place} {
             work : sc.free + 4 * ((sc.to - sc.from) * n) ≤ length w
             work = let g = ready.work in let l = so.slots_kept in omega (arith, mul-le-mul_right {m = sc.to - sc.from} {n = c.to - c.from} n (omega arith))
 
-        pub son_then : {s₂ t₂ w₂ : List ℕ} {y : Built}
+        pub son_then : {s₂ t₂ w₂ : List ℕ} {y : Option Place}
             → Grown (block_nodes lines (slice sc.from sc.to w) n kk) (block_listings lines (slice sc.from sc.to w) n kk) p s₁ t₁ s₂ t₂ sc.free w w₂ y
             → length w₂ ≡ length w → length s₂ ≡ length s₁ → length t₂ ≡ length t₁ → SoFar (λ f. part f ++ f b) s₂ t₂ w₂ y
         unfolding block_nodes block_listings

@@ -16,7 +16,9 @@ use Rattle.plane.proofs.Meeting.{meets_iff}
 use Rattle.tables.specs.Rows.{OnMap}
 use Rattle.tables.specs.Gathered.{Front}
 use Rattle.tables.specs.Slots.{live_few}
-use Rattle.tree.specs.declared.Built.{Built}
+use Rattle.std.specs.Prelude.{Option}
+use Rattle.tables.specs.declared.Place.{Place}
+use Rattle.candidates.specs.declared.Span.{Span}
 use Rattle.tree.specs.Builds.{Grown, Ready, GoodTable, origin, tree_for, block_nodes, block_listings, TreeBuilt}
 
 -- ---- a line on the grid meets the whole map
@@ -36,13 +38,14 @@ in_map lines s g =
     )
 
 -- ---- the whole build, from a list of slots w with the n live ones in front
-module _ {lines w₀ w : List ℕ} {n : ℕ} (table : GoodTable lines) (front : Front (live_slots lines) w₀ w n) {k : Block} (whole : k ≡ whole_map) where
-  pub start_ready : 57 * 1024 ≤ length w → (N L : ℕ) → Ready lines w (record { from = 0; to = n; free = n }) k 14 origin N L
+module _ {lines w₀ w : List ℕ} {n : ℕ} (table : GoodTable lines) (front : Front (live_slots lines) w₀ w n) {k : Block} (whole : k ≡ whole_map)
+    {c : Span} (all : c ≡ record { from = 0; to = n; free = n }) where
+  pub start_ready : 57 * 1024 ≤ length w → (N L : ℕ) → Ready lines w c k 14 origin N L
   start_ready len N L =
       let few = live_few lines in
       let short = table.short in
       let count = front.count in
-      rw whole
+      rw (all, whole)
       (record {
         candidates = λ s m. let g = table.good s (subst (λ (z : List ℕ). Memᴰ s z) front.front m) in record { good = g; met = in_map lines s g.on_map };
         span = omega arith;
@@ -54,11 +57,11 @@ module _ {lines w₀ w : List ℕ} {n : ℕ} (table : GoodTable lines) (front : 
         listing = omega arith;
       })
 
-  start_tree : tree_for lines (slice 0 n w) 14 k ≡ tree base_rule (live_lines lines)
+  start_tree : tree_for lines (slice c.from c.to w) 14 k ≡ tree base_rule (live_lines lines)
   unfolding tree_for tree live_lines
-  start_tree = rw whole (ap (λ (z : List ℕ). tree_by base_rule (map (line_at lines) z) 14 0 0) front.front)
+  start_tree = rw (all, whole) (ap (λ (z : List ℕ). tree_by base_rule (map (line_at lines) z) 14 0 0) front.front)
 
-  pub start_built : {s t s' t' w' : List ℕ} {r : Built} {f : ℕ}
-      → Grown (block_nodes lines (slice 0 n w) 14 k) (block_listings lines (slice 0 n w) 14 k) origin s t s' t' f w w' r → TreeBuilt lines s t s' t' r
+  pub start_built : {s t s' t' w' : List ℕ} {r : Option Place} {f : ℕ}
+      → Grown (block_nodes lines (slice c.from c.to w) 14 k) (block_listings lines (slice c.from c.to w) 14 k) origin s t s' t' f w w' r → TreeBuilt lines s t s' t' r
   unfolding block_nodes block_listings
   start_built {s} {t} {s'} {t'} {w'} {r} {f} g = record { built = (subst (λ (z : Tree). Grown (nodes_of z) (listings_of z) origin s t s' t' f w w' r) start_tree g).built }

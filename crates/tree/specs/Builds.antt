@@ -1,5 +1,5 @@
 -- What a build asks, and what it leaves in the tables.
-use Rattle.std.specs.Prelude.{◌≡◌, ◌⊎◌, ℕ, suc, ◌+◌, ◌*◌, ◌-◌, ◌^◌, ◌≤◌, ◌<◌, length, take}
+use Rattle.std.specs.Prelude.{◌≡◌, ◌⊎◌, ℕ, suc, ◌+◌, ◌*◌, ◌-◌, ◌^◌, ◌≤◌, ◌<◌, length, take, Option, Some, None}
 use mathlib.Core.List.{List, ◌++◌, map, Memᴰ}
 use Rattle.std.proofs.Math.Seq.{slice}
 use Rattle.algebra.specs.Words.{over}
@@ -9,8 +9,6 @@ use Rattle.definitions.specs.Tree.{Tree, tree_by, tree, base_rule, nodes_of, lis
 use Rattle.tables.specs.declared.Place.{Place}
 use Rattle.candidates.specs.declared.Span.{Span}
 use Rattle.rule.specs.Rule.{Good, Candidates}
-use Rattle.tree.specs.declared.Built.{Built}
-use Rattle.tree.specs.declared.Built.TheVariants.{Next, NoRoom}
 
 -- ---- what is built
 
@@ -46,12 +44,12 @@ pub record Grew (ns ls : List ℕ) (at next : Place) (nodes listings nodes' list
 abbrev pub Full : List ℕ → List ℕ → Place → List ℕ → List ℕ → Type 0
 Full ns ls at nodes listings = (length nodes < at.node + length ns) ⊎ (length listings < at.listing + length ls)
 
-abbrev pub BuiltIs : List ℕ → List ℕ → Place → List ℕ → List ℕ → List ℕ → List ℕ → Built → Type 0
-BuiltIs ns ls at nodes listings nodes' listings' (Next p) = Grew ns ls at p nodes listings nodes' listings'
-BuiltIs ns ls at nodes listings nodes' listings' NoRoom = Full ns ls at nodes listings
+abbrev pub BuiltIs : List ℕ → List ℕ → Place → List ℕ → List ℕ → List ℕ → List ℕ → Option Place → Type 0
+BuiltIs ns ls at nodes listings nodes' listings' (Some p) = Grew ns ls at p nodes listings nodes' listings'
+BuiltIs ns ls at nodes listings nodes' listings' None = Full ns ls at nodes listings
 
 -- and the list of slots is as it was below free
-pub record Grown (ns ls : List ℕ) (at : Place) (nodes listings nodes' listings' : List ℕ) (free : ℕ) (slots slots' : List ℕ) (r : Built) : Type 0 where
+pub record Grown (ns ls : List ℕ) (at : Place) (nodes listings nodes' listings' : List ℕ) (free : ℕ) (slots slots' : List ℕ) (r : Option Place) : Type 0 where
   pub built : BuiltIs ns ls at nodes listings nodes' listings' r
   pub below : take free slots' ≡ take free slots
 
@@ -85,5 +83,5 @@ abbrev pub origin : Place
 origin = record { node = 0; listing = 0 }
 
 -- the two lists of the tree of the live lines stand at the start of the tables, or one of them is longer than its table
-pub record TreeBuilt (lines nodes listings nodes' listings' : List ℕ) (r : Built) : Type 0 where
+pub record TreeBuilt (lines nodes listings nodes' listings' : List ℕ) (r : Option Place) : Type 0 where
   pub built : BuiltIs (nodes_of (tree base_rule (live_lines lines))) (listings_of (tree base_rule (live_lines lines))) origin nodes listings nodes' listings' r

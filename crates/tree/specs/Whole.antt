@@ -1,5 +1,5 @@
 -- For callers: which line tables a build takes, and what its answer means.
-use Rattle.std.specs.Prelude.{◌≡◌, true, false, List, ℕ, ◌≤◌, replicate}
+use Rattle.std.specs.Prelude.{◌≡◌, true, false, List, ℕ, ◌≤◌, replicate, Option, Some, None}
 use Rattle.std.proofs.Math.Path.{ap}
 use Rattle.std.proofs.Common.{◌∙◌, subst, inl, inr, le-leb, leb-true}
 use native.Mathlib.Omega.{arith}
@@ -12,8 +12,6 @@ use Rattle.definitions.specs.Calls.{room_for}
 use Rattle.tables.specs.declared.Place.{Place}
 use Rattle.algebra.specs.Lists.{over_zeros}
 use Rattle.tables.specs.Sound.{picked, sound_at, on_map, ends_apart}
-use Rattle.tree.specs.declared.Built.{Built}
-use Rattle.tree.specs.declared.Built.TheVariants.{Next, NoRoom}
 use Rattle.tree.specs.Builds.{GoodTable, origin, Grew, Full, BuiltIs, TreeBuilt}
 
 -- a table whose slots are sound
@@ -33,18 +31,18 @@ pub record TablesAre (lines : List ℕ) (n m : ℕ) (nodes listings : List ℕ) 
   pub nodes_are : nodes ≡ node_table base_rule n lines
   pub listings_are : listings ≡ listing_table base_rule m lines
 
-module _ {lines nodes listings nodes' listings' : List ℕ} {r : Built} (b : TreeBuilt lines nodes listings nodes' listings' r) where
+module _ {lines nodes listings nodes' listings' : List ℕ} {r : Option Place} (b : TreeBuilt lines nodes listings nodes' listings' r) where
   abbrev ns : List ℕ
   ns = nodes_of (tree base_rule (live_lines lines))
 
   abbrev ls : List ℕ
   ls = listings_of (tree base_rule (live_lines lines))
 
-  by : {x : Built} → r ≡ x → BuiltIs ns ls origin nodes listings nodes' listings' x
-  by e = subst (λ (x : Built). BuiltIs ns ls origin nodes listings nodes' listings' x) e b.built
+  by : {x : Option Place} → r ≡ x → BuiltIs ns ls origin nodes listings nodes' listings' x
+  by e = subst (λ (x : Option Place). BuiltIs ns ls origin nodes listings nodes' listings' x) e b.built
 
   -- where both tables were all 0
-  pub tables_are : {p : Place} → r ≡ Next p → (n m : ℕ) → nodes ≡ replicate n 0 → listings ≡ replicate m 0 → TablesAre lines n m nodes' listings'
+  pub tables_are : {p : Place} → r ≡ Some p → (n m : ℕ) → nodes ≡ replicate n 0 → listings ≡ replicate m 0 → TablesAre lines n m nodes' listings'
   unfolding node_table listing_table
   tables_are {p} e n m f g =
       let h : Grew ns ls origin p nodes listings nodes' listings' = by e in
@@ -54,18 +52,18 @@ module _ {lines nodes listings nodes' listings' : List ℕ} {r : Built} (b : Tre
       }
 
   -- the next place tells how many nodes the tree has
-  pub nodes_used : {p : Place} → r ≡ Next p → p.node ≡ length ns
+  pub nodes_used : {p : Place} → r ≡ Some p → p.node ≡ length ns
   nodes_used {p} e = let h : Grew ns ls origin p nodes listings nodes' listings' = by e in omega (arith, h.next_node)
 
   -- whether there is room depends on the tables' lengths alone
   module _ (t : Tables) (n : length t.nodes ≡ length nodes) (m : length t.listings ≡ length listings) where
-    pub has_room : {p : Place} → r ≡ Next p → room_for base_rule t lines ≡ true
+    pub has_room : {p : Place} → r ≡ Some p → room_for base_rule t lines ≡ true
     unfolding room_for
     has_room {p} e =
         let h : Grew ns ls origin p nodes listings nodes' listings' = by e in
         both← (le-leb (length ns) (length t.nodes) (omega arith)) (le-leb (length ls) (length t.listings) (omega arith))
 
-    pub no_room : r ≡ NoRoom → room_for base_rule t lines ≡ false
+    pub no_room : r ≡ None → room_for base_rule t lines ≡ false
     unfolding room_for
     no_room e = false_by _ (λ v. let q = both→ _ _ v in more (leb-true _ _ q.0) (leb-true _ _ q.1) (by e))
       where

@@ -11,14 +11,10 @@ use geometry::{Block, north_east, north_west, south_east, south_west, whole_map}
 use rule::left_whole;
 use tables::{Place, copy, live_slots};
 
-// The next free places, or that one of the tables is too short.
-#[derive(Clone, Copy)]
-pub enum Built {
-    Next(Place),
-    NoRoom,
-}
+// Each build gives the next free places, or None where one of the tables is too short.
 
-pub fn put_leaf(slots: &[u16], nodes: &mut [u16], listings: &mut [u16], at: Place) -> Built
+// A leaf, where the node table has room for its node.
+pub fn put_leaf(slots: &[u16], nodes: &mut [u16], listings: &mut [u16], at: Place) -> Option<Place>
     requires { (length slots.now ≤ 1024) × (at.node < length nodes.old) × (at.listing ≤ length listings.old) }
     ensures { BuiltIs (length slots.now ∷ []) slots.now at nodes.old listings.old nodes.new listings.new result }
 {
@@ -26,7 +22,7 @@ pub fn put_leaf(slots: &[u16], nodes: &mut [u16], listings: &mut [u16], at: Plac
     let node = at.node;
     let listing = at.listing;
     if listings.len() - listing < n {
-        return Built::NoRoom;
+        return None;
     }
     let next = Place {
         node: node + 1,
@@ -34,7 +30,7 @@ pub fn put_leaf(slots: &[u16], nodes: &mut [u16], listings: &mut [u16], at: Plac
     };
     nodes[node] = n as u16;
     copy(slots, &mut listings[listing..]);
-    Built::Next(next)
+    Some(next)
 }
 
 // The tree of a block with these candidates. A block at level n has side 2 x 2^n.
@@ -48,7 +44,7 @@ pub fn build_block(
     nodes: &mut [u16],
     listings: &mut [u16],
     at: Place,
-) -> Built
+) -> Option<Place>
     requires { Ready lines.now slots.old c (block_of k) level at (length nodes.old) (length listings.old) }
     ensures { Grown
         (block_nodes lines.now (slice c.from c.to slots.old) level (block_of k))
@@ -60,7 +56,7 @@ pub fn build_block(
     let to = c.to;
     let node = at.node;
     if nodes.len() <= node {
-        return Built::NoRoom;
+        return None;
     }
     if left_whole(lines, &slots[from..to], k, level) {
         return put_leaf(&slots[from..to], nodes, listings, at);
@@ -84,7 +80,7 @@ pub fn build_sons(
     nodes: &mut [u16],
     listings: &mut [u16],
     at: Place,
-) -> Built
+) -> Option<Place>
     requires { Ready lines.now slots.old c (block_of k) (suc level) at (length nodes.old) (length listings.old) }
     ensures { Grown
         (sons_nodes lines.now (slice c.from c.to slots.old) level (block_of k))
@@ -93,7 +89,7 @@ pub fn build_sons(
         c.free slots.old slots.new result }
 {
     let s = spread(lines, slots, c, k);
-    let Built::Next(p) = build_block(
+    let p = build_block(
         lines,
         slots,
         s.nw,
@@ -102,33 +98,21 @@ pub fn build_sons(
         nodes,
         listings,
         at,
-    ) else {
-        return Built::NoRoom;
-    };
-    let Built::Next(q) = build_block(lines, slots, s.ne, north_east(k), level, nodes, listings, p)
-    else {
-        return Built::NoRoom;
-    };
-    let Built::Next(r) = build_block(lines, slots, s.sw, south_west(k), level, nodes, listings, q)
-    else {
-        return Built::NoRoom;
-    };
+    )?;
+    let q = build_block(lines, slots, s.ne, north_east(k), level, nodes, listings, p)?;
+    let r = build_block(lines, slots, s.sw, south_west(k), level, nodes, listings, q)?;
     build_block(lines, slots, s.se, south_east(k), level, nodes, listings, r)
 }
 
 // The tree of the live lines, from the start of both tables.
-pub fn build(lines: &[u16], nodes: &mut [u16], listings: &mut [u16]) -> Built
+pub fn build(lines: &[u16], nodes: &mut [u16], listings: &mut [u16]) -> Option<Place>
     requires { GoodTable lines.now }
     ensures { TreeBuilt lines.now nodes.old listings.old nodes.new listings.new result }
 {
     // 57 x 1,024: the live slots, and the lists of four sons at each of 14 levels.
     let mut slots = [0u16; 58368];
     let n = live_slots(lines, &mut slots);
-    let all = Span {
-        from: 0,
-        to: n,
-        free: n,
-    };
+    let all = Span::new(0, n, n);
     let start = Place {
         node: 0,
         listing: 0,

@@ -68,57 +68,57 @@ build_sons-build_block-requires t c =
     let o = no_son c.requires c.spread-s.ensures c.args.nodes.now c.args.listings.now c.spread-s.auto.slots c.requires.node c.requires.listing in
     (omega (arith, c.decreases), son_ready _ _ _ _ o refl _ _ c.north_west.ensures (nw_of_tree c.requires.of_tree) c.spread-s.ensures.nw)
 
-pub build_sons-returns-in_default : goal.build_sons-returns-in_default
+pub build_sons-returns-in_err-p : goal.build_sons-returns-in_err-p
 unfolding sons_nodes sons_listings
-build_sons-returns-in_default t c =
+build_sons-returns-in_err-p t c =
     let o = no_son c.requires c.spread-s.ensures c.args.nodes.now c.args.listings.now c.spread-s.auto.slots c.requires.node c.requires.listing in
     let nw = son_then _ _ _ _ o refl _ _ c.north_west.ensures (nw_of_tree c.requires.of_tree) c.spread-s.ensures.nw c.build_block.ensures c.build_block.auto.slots c.build_block.auto.nodes c.build_block.auto.listings in
-    sons_grown _ _ _ _ (sons_stop _ _ _ _ (sons_stop _ _ _ _ (sons_stop _ _ _ _ nw c.in_default.is _) refl _) refl _)
+    rw c.from_residual.ensures (sons_grown _ _ _ _ (sons_stop _ _ _ _ (sons_stop _ _ _ _ (sons_stop _ _ _ _ nw c.in_err-p.was _) refl _) refl _))
 
 pub build_sons-build_block-requires-2 : goal.build_sons-build_block-requires-2
 build_sons-build_block-requires-2 t c =
     let o = no_son c.requires c.spread-s.ensures c.args.nodes.now c.args.listings.now c.spread-s.auto.slots c.requires.node c.requires.listing in
     let nw = son_then _ _ _ _ o refl _ _ c.north_west.ensures (nw_of_tree c.requires.of_tree) c.spread-s.ensures.nw c.build_block.ensures c.build_block.auto.slots c.build_block.auto.nodes c.build_block.auto.listings in
-    (omega (arith, c.decreases), son_ready _ _ _ _ nw c.in-Next.is _ _ c.north_east.ensures (ne_of_tree c.requires.of_tree) c.spread-s.ensures.ne)
+    (omega (arith, c.decreases), son_ready _ _ _ _ nw c.in_ok-p.was _ _ c.north_east.ensures (ne_of_tree c.requires.of_tree) c.spread-s.ensures.ne)
 
-pub build_sons-returns-in_default-build_block : goal.build_sons-returns-in_default-build_block
+pub build_sons-returns-in_err-q : goal.build_sons-returns-in_err-q
 unfolding sons_nodes sons_listings
-build_sons-returns-in_default-build_block t c =
+build_sons-returns-in_err-q t c =
     let o = no_son c.requires c.spread-s.ensures c.args.nodes.now c.args.listings.now c.spread-s.auto.slots c.requires.node c.requires.listing in
     let nw = son_then _ _ _ _ o refl _ _ c.north_west.ensures (nw_of_tree c.requires.of_tree) c.spread-s.ensures.nw c.build_block.ensures c.build_block.auto.slots c.build_block.auto.nodes c.build_block.auto.listings in
-    let ne = son_then _ _ _ _ nw c.in-Next.is _ _ c.north_east.ensures (ne_of_tree c.requires.of_tree) c.spread-s.ensures.ne c.build_block-2.ensures c.build_block-2.auto.slots c.build_block-2.auto.nodes c.build_block-2.auto.listings in
-    sons_grown _ _ _ _ (sons_stop _ _ _ _ (sons_stop _ _ _ _ ne c.in_default-build_block.is _) refl _)
+    let ne = son_then _ _ _ _ nw c.in_ok-p.was _ _ c.north_east.ensures (ne_of_tree c.requires.of_tree) c.spread-s.ensures.ne c.build_block-2.ensures c.build_block-2.auto.slots c.build_block-2.auto.nodes c.build_block-2.auto.listings in
+    rw c.from_residual-in_err-q.ensures (sons_grown _ _ _ _ (sons_stop _ _ _ _ (sons_stop _ _ _ _ ne c.in_err-q.was _) refl _))
 
 pub build_sons-build_block-requires-3 : goal.build_sons-build_block-requires-3
 build_sons-build_block-requires-3 t c =
     let o = no_son c.requires c.spread-s.ensures c.args.nodes.now c.args.listings.now c.spread-s.auto.slots c.requires.node c.requires.listing in
     let nw = son_then _ _ _ _ o refl _ _ c.north_west.ensures (nw_of_tree c.requires.of_tree) c.spread-s.ensures.nw c.build_block.ensures c.build_block.auto.slots c.build_block.auto.nodes c.build_block.auto.listings in
-    let ne = son_then _ _ _ _ nw c.in-Next.is _ _ c.north_east.ensures (ne_of_tree c.requires.of_tree) c.spread-s.ensures.ne c.build_block-2.ensures c.build_block-2.auto.slots c.build_block-2.auto.nodes c.build_block-2.auto.listings in
-    (omega (arith, c.decreases), son_ready _ _ _ _ ne c.in-Next-build_block.is _ _ c.south_west.ensures (sw_of_tree c.requires.of_tree) c.spread-s.ensures.sw)
+    let ne = son_then _ _ _ _ nw c.in_ok-p.was _ _ c.north_east.ensures (ne_of_tree c.requires.of_tree) c.spread-s.ensures.ne c.build_block-2.ensures c.build_block-2.auto.slots c.build_block-2.auto.nodes c.build_block-2.auto.listings in
+    (omega (arith, c.decreases), son_ready _ _ _ _ ne c.in_ok-q.was _ _ c.south_west.ensures (sw_of_tree c.requires.of_tree) c.spread-s.ensures.sw)
 
-pub build_sons-returns-in_default-build_block-2 : goal.build_sons-returns-in_default-build_block-2
+pub build_sons-returns-in_err-r : goal.build_sons-returns-in_err-r
 unfolding sons_nodes sons_listings
-build_sons-returns-in_default-build_block-2 t c =
+build_sons-returns-in_err-r t c =
     let o = no_son c.requires c.spread-s.ensures c.args.nodes.now c.args.listings.now c.spread-s.auto.slots c.requires.node c.requires.listing in
     let nw = son_then _ _ _ _ o refl _ _ c.north_west.ensures (nw_of_tree c.requires.of_tree) c.spread-s.ensures.nw c.build_block.ensures c.build_block.auto.slots c.build_block.auto.nodes c.build_block.auto.listings in
-    let ne = son_then _ _ _ _ nw c.in-Next.is _ _ c.north_east.ensures (ne_of_tree c.requires.of_tree) c.spread-s.ensures.ne c.build_block-2.ensures c.build_block-2.auto.slots c.build_block-2.auto.nodes c.build_block-2.auto.listings in
-    let sw = son_then _ _ _ _ ne c.in-Next-build_block.is _ _ c.south_west.ensures (sw_of_tree c.requires.of_tree) c.spread-s.ensures.sw c.build_block-3.ensures c.build_block-3.auto.slots c.build_block-3.auto.nodes c.build_block-3.auto.listings in
-    sons_grown _ _ _ _ (sons_stop _ _ _ _ sw c.in_default-build_block-2.is _)
+    let ne = son_then _ _ _ _ nw c.in_ok-p.was _ _ c.north_east.ensures (ne_of_tree c.requires.of_tree) c.spread-s.ensures.ne c.build_block-2.ensures c.build_block-2.auto.slots c.build_block-2.auto.nodes c.build_block-2.auto.listings in
+    let sw = son_then _ _ _ _ ne c.in_ok-q.was _ _ c.south_west.ensures (sw_of_tree c.requires.of_tree) c.spread-s.ensures.sw c.build_block-3.ensures c.build_block-3.auto.slots c.build_block-3.auto.nodes c.build_block-3.auto.listings in
+    rw c.from_residual-in_err-r.ensures (sons_grown _ _ _ _ (sons_stop _ _ _ _ sw c.in_err-r.was _))
 
 pub build_sons-build_block-requires-4 : goal.build_sons-build_block-requires-4
 build_sons-build_block-requires-4 t c =
     let o = no_son c.requires c.spread-s.ensures c.args.nodes.now c.args.listings.now c.spread-s.auto.slots c.requires.node c.requires.listing in
     let nw = son_then _ _ _ _ o refl _ _ c.north_west.ensures (nw_of_tree c.requires.of_tree) c.spread-s.ensures.nw c.build_block.ensures c.build_block.auto.slots c.build_block.auto.nodes c.build_block.auto.listings in
-    let ne = son_then _ _ _ _ nw c.in-Next.is _ _ c.north_east.ensures (ne_of_tree c.requires.of_tree) c.spread-s.ensures.ne c.build_block-2.ensures c.build_block-2.auto.slots c.build_block-2.auto.nodes c.build_block-2.auto.listings in
-    let sw = son_then _ _ _ _ ne c.in-Next-build_block.is _ _ c.south_west.ensures (sw_of_tree c.requires.of_tree) c.spread-s.ensures.sw c.build_block-3.ensures c.build_block-3.auto.slots c.build_block-3.auto.nodes c.build_block-3.auto.listings in
-    (omega (arith, c.decreases), son_ready _ _ _ _ sw c.in-Next-build_block-2.is _ _ c.south_east.ensures (se_of_tree c.requires.of_tree) c.spread-s.ensures.se)
+    let ne = son_then _ _ _ _ nw c.in_ok-p.was _ _ c.north_east.ensures (ne_of_tree c.requires.of_tree) c.spread-s.ensures.ne c.build_block-2.ensures c.build_block-2.auto.slots c.build_block-2.auto.nodes c.build_block-2.auto.listings in
+    let sw = son_then _ _ _ _ ne c.in_ok-q.was _ _ c.south_west.ensures (sw_of_tree c.requires.of_tree) c.spread-s.ensures.sw c.build_block-3.ensures c.build_block-3.auto.slots c.build_block-3.auto.nodes c.build_block-3.auto.listings in
+    (omega (arith, c.decreases), son_ready _ _ _ _ sw c.in_ok-r.was _ _ c.south_east.ensures (se_of_tree c.requires.of_tree) c.spread-s.ensures.se)
 
 pub build_sons-returns : goal.build_sons-returns
 unfolding sons_nodes sons_listings
 build_sons-returns t c =
     let o = no_son c.requires c.spread-s.ensures c.args.nodes.now c.args.listings.now c.spread-s.auto.slots c.requires.node c.requires.listing in
     let nw = son_then _ _ _ _ o refl _ _ c.north_west.ensures (nw_of_tree c.requires.of_tree) c.spread-s.ensures.nw c.build_block.ensures c.build_block.auto.slots c.build_block.auto.nodes c.build_block.auto.listings in
-    let ne = son_then _ _ _ _ nw c.in-Next.is _ _ c.north_east.ensures (ne_of_tree c.requires.of_tree) c.spread-s.ensures.ne c.build_block-2.ensures c.build_block-2.auto.slots c.build_block-2.auto.nodes c.build_block-2.auto.listings in
-    let sw = son_then _ _ _ _ ne c.in-Next-build_block.is _ _ c.south_west.ensures (sw_of_tree c.requires.of_tree) c.spread-s.ensures.sw c.build_block-3.ensures c.build_block-3.auto.slots c.build_block-3.auto.nodes c.build_block-3.auto.listings in
-    let se = son_then _ _ _ _ sw c.in-Next-build_block-2.is _ _ c.south_east.ensures (se_of_tree c.requires.of_tree) c.spread-s.ensures.se c.build_block-4.ensures c.build_block-4.auto.slots c.build_block-4.auto.nodes c.build_block-4.auto.listings in
+    let ne = son_then _ _ _ _ nw c.in_ok-p.was _ _ c.north_east.ensures (ne_of_tree c.requires.of_tree) c.spread-s.ensures.ne c.build_block-2.ensures c.build_block-2.auto.slots c.build_block-2.auto.nodes c.build_block-2.auto.listings in
+    let sw = son_then _ _ _ _ ne c.in_ok-q.was _ _ c.south_west.ensures (sw_of_tree c.requires.of_tree) c.spread-s.ensures.sw c.build_block-3.ensures c.build_block-3.auto.slots c.build_block-3.auto.nodes c.build_block-3.auto.listings in
+    let se = son_then _ _ _ _ sw c.in_ok-r.was _ _ c.south_east.ensures (se_of_tree c.requires.of_tree) c.spread-s.ensures.se c.build_block-4.ensures c.build_block-4.auto.slots c.build_block-4.auto.nodes c.build_block-4.auto.listings in
     sons_grown _ _ _ _ se
