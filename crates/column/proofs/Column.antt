@@ -13,8 +13,8 @@ use Rattle.definitions.specs.Tables.{live_lines}
 use Rattle.definitions.specs.Lookup.{west_end, east_end}
 use Rattle.geometry.specs.declared.Line as code
 use Rattle.geometry.specs.Means.{block_of, line_of, point_by}
-use Rattle.meaning.specs.declared.Found.{Found}
-use Rattle.meaning.specs.declared.Found.TheVariants.{Nothing, At}
+use Rattle.meaning.specs.Found.{Found}
+use Rattle.std.specs.Prelude.{None, Some}
 use Rattle.meaning.specs.Ahead.{beyond}
 use Rattle.meaning.specs.Column.{near, far, listed→}
 use Rattle.meaning.specs.Walk.{reached}
@@ -106,12 +106,12 @@ pub far_most : (d : Bool) (k : Block) → north k ≤ 32768 → far d k ≤ 3276
 far_most true k h = omega arith
 far_most false k h = h
 
-pub none_reached : (lines : List ℕ) (d : Bool) (p : Point) (S : ℕ) → false ≡ reached lines d p S Nothing
+pub none_reached : (lines : List ℕ) (d : Bool) (p : Point) (S : ℕ) → false ≡ reached lines d p S None
 unfolding reached
 none_reached lines d p S = refl
 
 -- the code's test is that of the definitions
 pub reach_is : (lines : List ℕ) (d : Bool) (p : Point) (S : Half) {s T : ℕ} {l : code.Line} {r : Bool} → IsLine lines s l → S.0 ≡ T →
-    r ≡ not (beyond d (turn (west_end (line_of l)) (east_end (line_of l)) (point_by p.x S))) → r ≡ reached lines d p T (At s)
+    r ≡ not (beyond d (turn (west_end (line_of l)) (east_end (line_of l)) (point_by p.x S))) → r ≡ reached lines d p T (Some s)
 unfolding reached
-reach_is lines d p S {s} i t e = e ∙ ap (λ (m : Line). not (beyond d (turn (west_end m) (east_end m) (point_by p.x S)))) (line_is i) ∙ ap (λ (T : ℕ). reached lines d p T (At s)) t
+reach_is lines d p S {s} i t e = e ∙ ap (λ (m : Line). not (beyond d (turn (west_end m) (east_end m) (point_by p.x S)))) (line_is i) ∙ ap (λ (T : ℕ). reached lines d p T (Some s)) t

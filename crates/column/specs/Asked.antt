@@ -7,7 +7,7 @@ use Rattle.definitions.specs.Tree.{listed}
 use Rattle.definitions.specs.Tables.{live_lines}
 use Rattle.geometry.specs.Means.{block_of}
 use Rattle.geometry.specs.Range.{End}
-use Rattle.meaning.specs.declared.Found.{Found}
+use Rattle.meaning.specs.Found.{Found}
 use Rattle.meaning.specs.Column.{near, far, Seen}
 use Rattle.walk.specs.Index.{Entries, Put}
 use Rattle.scan.specs.declared.Scan.{Scan}

@@ -12,8 +12,8 @@ use Rattle.definitions.specs.Tables.{slots_of, slot_sound, line_at, live_lines}
 use Rattle.definitions.specs.Lookup.{on_line, answering}
 use Rattle.geometry.specs.Means.{block_of}
 use Rattle.geometry.specs.Range.{End}
-use Rattle.meaning.specs.declared.Found.{Found}
-use Rattle.meaning.specs.declared.Found.TheVariants.{Nothing, At}
+use Rattle.meaning.specs.Found.{Found}
+use Rattle.std.specs.Prelude.{None, Some}
 use Rattle.meaning.specs.Answering.{through_is, none_through}
 use Rattle.meaning.specs.Column.{near, far, Seen, BestOf, SouthOf, listed→, seen_start, seen_foot, seen_head}
 use Rattle.meaning.specs.Walk.{reached, reached_best, leaf_seen}
@@ -43,7 +43,7 @@ module _ {lines nodes listings index : List ℕ} {d : Bool} {p : Point} {at : Sp
   pub leaf_on : {s : ℕ} {r : Scan} → LeafTold lines nodes listings index p at.node c d r → r ≡ Scanned.On s → on_line s ≡ answering lines p
   leaf_on {s} t f = go h.here
     where
-      e : first_on lines p list ≡ At s
+      e : first_on lines p list ≡ Some s
       e = subst (λ (x : Scan). ScanIs lines d p c list x) f (t.told h.placed)
 
       go : (inside k p ≡ true) ⊎ (those (on p) (live_lines lines) ≡ []) → on_line s ≡ answering lines p
@@ -94,10 +94,10 @@ module _ {lines : List ℕ} {d : Bool} {p : Point} {S : ℕ} {c : Found} (h : Do
 
 module _ {lines nodes listings index : List ℕ} {d : Bool} {p : Point} where
   -- the leaf that holds p
-  pub at_own : {path : List ℕ} {own at : Spot} → Held lines nodes listings index path p own → (get_or nodes own.node 0 ≡ 65535 → ⊥) → End p → at.node ≡ own.node → at.block ≡ own.block → AtLeaf lines nodes listings index d p at Nothing
+  pub at_own : {path : List ℕ} {own at : Spot} → Held lines nodes listings index path p own → (get_or nodes own.node 0 ≡ 65535 → ⊥) → End p → at.node ≡ own.node → at.block ≡ own.block → AtLeaf lines nodes listings index d p at None
   at_own {own = own} {at = at} h w g e f = record { placed = rw (e, f) h.placed; whole = rw e w; seen = rw f (start d); here = inl (rw f holds); on_way = none; point = g }
     where
-      start : (d : Bool) → Seen lines d p (near d (block_of own.block)) Nothing
+      start : (d : Bool) → Seen lines d p (near d (block_of own.block)) None
       start true = seen_start lines p true _ h.to_north
       start false = seen_start lines p false _ (omega (arith, h.from_south))
 

@@ -9,8 +9,8 @@ use Rattle.algebra.specs.Tests.{no_path}
 use Rattle.definitions.specs.declared.Point.{Point}
 use Rattle.definitions.specs.Tables.{none_conflict}
 use Rattle.definitions.specs.Lookup.{on_line, answering, answer_of, answer_at}
-use Rattle.meaning.specs.declared.Found.{Found}
-use Rattle.meaning.specs.declared.Found.TheVariants.{Nothing, At}
+use Rattle.meaning.specs.Found.{Found}
+use Rattle.std.specs.Prelude.{None, Some}
 use Rattle.meaning.specs.Column.{found_below, found_above, found_none}
 use Rattle.scan.specs.Asked.{label_by, Plain, BestOn}
 use Rattle.lookup.specs.Asked.{Ready, ToldBy, Turn, at_once, none_below, FoundIs}
@@ -25,18 +25,18 @@ module _ {lines : List ℕ} {p : Point} where
   found_on e f g = record { answers = λ _ _. f ∙ ap (answer_of lines) g; nothing = λ h. no_path (sym h ∙ e) }
 
   module _ (apart : none_conflict lines ≡ true) where
-    by_label : (d : Bool) {s : ℕ} → Turn lines p d → BestOn lines d p (At s) → label_by lines d s ≡ answer_at lines p
+    by_label : (d : Bool) {s : ℕ} → Turn lines p d → BestOn lines d p (Some s) → label_by lines d s ≡ answer_at lines p
     unfolding answer_at answer_of
     by_label true {s} at_once b = ap (answer_of lines) (found_below lines p apart b.none_on s b.best)
     by_label false {s} (none_below n) b = ap (answer_of lines) (found_above lines p apart b.none_on s n.best b.best)
 
     -- the best line on the way
     pub found_best : (d : Bool) (c : Found) {some : Bool} {answer : ℕ} → BestOn lines d p c → ToldBy lines d c some answer → FoundIs lines d p some answer
-    found_best d Nothing b t = record { answers = λ h. no_path (sym t.0 ∙ h); nothing = λ _. (b, t.1) }
-    found_best d (At s) b t = record { answers = λ _ turn. t.1 ∙ by_label d turn b; nothing = λ h. no_path (sym h ∙ t.0) }
+    found_best d None b t = record { answers = λ h. no_path (sym t.0 ∙ h); nothing = λ _. (b, t.1) }
+    found_best d (Some s) b t = record { answers = λ _ turn. t.1 ∙ by_label d turn b; nothing = λ h. no_path (sym h ∙ t.0) }
 
     -- nothing either way
-    found_neither : {answer : ℕ} → Turn lines p false → BestOn lines false p Nothing × (answer ≡ 0) → answer ≡ answer_at lines p
+    found_neither : {answer : ℕ} → Turn lines p false → BestOn lines false p None × (answer ≡ 0) → answer ≡ answer_at lines p
     unfolding answer_at answer_of
     found_neither (none_below n) b = b.1 ∙ ap (answer_of lines) (found_none lines p apart b.0.none_on n.best b.0.best)
 

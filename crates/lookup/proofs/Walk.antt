@@ -9,8 +9,8 @@ use Rattle.definitions.specs.declared.Point.{Point}
 use Rattle.definitions.specs.Shape.{whole_map}
 use Rattle.geometry.specs.Means.{block_of}
 use Rattle.geometry.specs.Range.{End}
-use Rattle.meaning.specs.declared.Found.{Found}
-use Rattle.meaning.specs.declared.Found.TheVariants.{Nothing}
+use Rattle.meaning.specs.Found.{Found}
+use Rattle.std.specs.Prelude.{None}
 use Rattle.meaning.specs.Column.{near, far}
 use Rattle.path.specs.declared.Spot.{Spot}
 use Rattle.path.specs.Placed.{Placed}
@@ -36,7 +36,7 @@ pub record Coming (lines nodes listings index path later : List ℕ) (d : Bool) 
   pub low : level ≤ 14
 
 module _ {lines nodes listings index path later : List ℕ} {d : Bool} {p : Point} where
-  pub walk_start : {own at : Spot} → Held lines nodes listings index path p own → (get_or nodes own.node 0 ≡ 65535 → ⊥) → End p → at.node ≡ own.node → at.block ≡ own.block → at.by ≡ 0 → WalkAt lines nodes listings index path later d p at own.by Nothing
+  pub walk_start : {own at : Spot} → Held lines nodes listings index path p own → (get_or nodes own.node 0 ≡ 65535 → ⊥) → End p → at.node ≡ own.node → at.block ≡ own.block → at.by ≡ 0 → WalkAt lines nodes listings index path later d p at own.by None
   walk_start {own} {at} h w g e f z = record {
     leaf = at_own h w g e f;
     side = far d (block_of own.block);

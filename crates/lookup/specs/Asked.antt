@@ -4,8 +4,8 @@ use Rattle.definitions.specs.declared.Point.{Point}
 use Rattle.definitions.specs.Tables.{live_slots}
 use Rattle.definitions.specs.Lookup.{answer_at}
 use Rattle.geometry.specs.Range.{End}
-use Rattle.meaning.specs.declared.Found.{Found}
-use Rattle.meaning.specs.declared.Found.TheVariants.{Nothing, At}
+use Rattle.meaning.specs.Found.{Found}
+use Rattle.std.specs.Prelude.{None, Some}
 use Rattle.scan.specs.Asked.{OnWay, label_by, BestOn}
 use Rattle.path.specs.declared.Spot.{Spot}
 use Rattle.path.specs.Placed.{Charted}
@@ -30,18 +30,18 @@ pub record Counting (lines : List ℕ) (d : Bool) (best : Found) : Type 0 where
 
 -- whether there is a line, and the label by which it answers
 abbrev pub ToldBy : List ℕ → Bool → Found → Bool → ℕ → Type 0
-ToldBy lines d Nothing some answer = (some ≡ false) × (answer ≡ 0)
-ToldBy lines d (At s) some answer = (some ≡ true) × (answer ≡ label_by lines d s)
+ToldBy lines d None some answer = (some ≡ false) × (answer ≡ 0)
+ToldBy lines d (Some s) some answer = (some ≡ true) × (answer ≡ label_by lines d s)
 
 -- a way is asked: south at once, north when nothing counts below
 pub data Turn (lines : List ℕ) (p : Point) : Bool → Type 0 where
   at_once : Turn lines p true
-  none_below : BestOn lines true p Nothing → Turn lines p false
+  none_below : BestOn lines true p None → Turn lines p false
 
 -- a line answers, or nothing goes through p or counts on the way
 pub record FoundIs (lines : List ℕ) (d : Bool) (p : Point) (some : Bool) (answer : ℕ) : Type 0 where
   pub answers : some ≡ true → Turn lines p d → answer ≡ answer_at lines p
-  pub nothing : some ≡ false → BestOn lines d p Nothing × (answer ≡ 0)
+  pub nothing : some ≡ false → BestOn lines d p None × (answer ≡ 0)
 
 -- ---- A walk
 

@@ -7,8 +7,8 @@ use Rattle.std.proofs.Math.Bool.{true, false}
 use mathlib.Core.List.Memᴰ
 use mathlib.Core.List.{List, [], ◌∷◌, ◌++◌, Memᴰ}
 use Rattle.std.proofs.lemmas.Bool.{eqb-false}
-use Rattle.meaning.specs.declared.Found.{Found}
-use Rattle.meaning.specs.declared.Found.TheVariants.{Nothing, At}
+use Rattle.meaning.specs.Found.{Found}
+use Rattle.std.specs.Prelude.{None, Some}
 use Rattle.definitions.specs.declared.Point.{Point}
 use Rattle.algebra.specs.Signs.{positive_is}
 use Rattle.algebra.specs.Tests.{no_path}
@@ -24,8 +24,8 @@ use Rattle.plane.specs.Turns.{turn_is, higher_by_turns}
 
 -- one more slot looked at: q says whether its line counts, first which of two goes first
 unfoldable pub better : (lines : List ℕ) (q : Line → Bool) (first : Line → Line → Bool) → Found → ℕ → Found
-better lines q first Nothing s = if q (line_at lines s) then At s else Nothing
-better lines q first (At t) s = if q (line_at lines s) && first (line_at lines s) (line_at lines t) then At s else At t
+better lines q first None s = if q (line_at lines s) then Some s else None
+better lines q first (Some t) s = if q (line_at lines s) && first (line_at lines s) (line_at lines t) then Some s else Some t
 
 unfoldable pub scan : (lines : List ℕ) (q : Line → Bool) (first : Line → Line → Bool) → Found → List ℕ → Found
 scan lines q first c [] = c
@@ -45,8 +45,8 @@ pub record CountsAt (lines : List ℕ) (x : ℕ) (q : Line → Bool) (s : ℕ) :
 module _ (lines : List ℕ) (d : Bool) (x : ℕ) (q : Line → Bool) where
   -- c is the best of the lines in A that upFrom
   pub data Tops (A : ℕ → Type 0) : Found → Type 0 where
-    no_top : ((u : ℕ) → A u → CountsAt lines x q u → ⊥) → Tops A Nothing
-    top : (s : ℕ) → CountsAt lines x q s → ((u : ℕ) → A u → CountsAt lines x q u → Ahead d x (line_at lines u) (line_at lines s) → ⊥) → Tops A (At s)
+    no_top : ((u : ℕ) → A u → CountsAt lines x q u → ⊥) → Tops A None
+    top : (s : ℕ) → CountsAt lines x q s → ((u : ℕ) → A u → CountsAt lines x q u → Ahead d x (line_at lines u) (line_at lines s) → ⊥) → Tops A (Some s)
 
   pub tops_less : (A B : ℕ → Type 0) (c : Found) → ((u : ℕ) → CountsAt lines x q u → B u → A u) → Tops A c → Tops B c
   tops_less A B c f (no_top g) = no_top (λ u b k. g u (f u k b) k)
@@ -67,7 +67,7 @@ module _ (lines : List ℕ) (d : Bool) (x : ℕ) (q : Line → Bool) where
       one u (inl a) k h = f u a k
       one u (inr i) k h = let j = subst (λ (n : ℕ). Ahead d x (line_at lines n) (line_at lines s)) i h in ahead_asym d x _ _ j j
 
-      go : (t : Bool) → q (line_at lines s) ≡ t → Tops (λ (u : ℕ). A u ⊎ (u ≡ s)) (if t then At s else Nothing)
+      go : (t : Bool) → q (line_at lines s) ≡ t → Tops (λ (u : ℕ). A u ⊎ (u ≡ s)) (if t then Some s else None)
       go true e = top s (record { lives = v; passes = e; over = o e }) one
       go false e = no_top (none e)
   tops_better A c s v o (top t k f) = go (q (line_at lines s)) refl (ahead d x (line_at lines s) (line_at lines t)) refl
@@ -84,7 +84,7 @@ module _ (lines : List ℕ) (d : Bool) (x : ℕ) (q : Line → Bool) where
       new c e u (inl a) j h = f u a j (ahead_trans d x (line_at lines u) (line_at lines s) (line_at lines t) (runs u j) (runs s c) (runs t k) h (ahead→ d x _ _ e))
       new c e u (inr i) j h = let b = subst (λ (n : ℕ). Ahead d x (line_at lines n) (line_at lines s)) i h in ahead_asym d x _ _ b b
 
-      go : (b : Bool) → q (line_at lines s) ≡ b → (a : Bool) → ahead d x (line_at lines s) (line_at lines t) ≡ a → Tops (λ (u : ℕ). A u ⊎ (u ≡ s)) (if b && a then At s else At t)
+      go : (b : Bool) → q (line_at lines s) ≡ b → (a : Bool) → ahead d x (line_at lines s) (line_at lines t) ≡ a → Tops (λ (u : ℕ). A u ⊎ (u ≡ s)) (if b && a then Some s else Some t)
       go true e true f = let c : CountsAt lines x q s = record { lives = v; passes = e; over = o e } in top s c (new c f)
       go true e false f = top t k (held f)
       go false e a f = top t k (kept e)
@@ -160,8 +160,8 @@ module _ (lines : List ℕ) (p : Point) (sound : none_conflict lines ≡ true) w
   better_by_turns d q A c s v o (top t k f) = go (q (line_at lines s)) refl
     where
       go : (b : Bool) → q (line_at lines s) ≡ b
-          → (if b && ahead d p.x.0 (line_at lines s) (line_at lines t) then At s else At t) ≡ (if b && ahead_by_turns d (line_at lines s) (line_at lines t) then At s else At t)
-      go true e = ap (λ (b : Bool). if b then At s else At t) (ahead_by_turns_lem d s t v k.lives (o e) k.over)
+          → (if b && ahead d p.x.0 (line_at lines s) (line_at lines t) then Some s else Some t) ≡ (if b && ahead_by_turns d (line_at lines s) (line_at lines t) then Some s else Some t)
+      go true e = ap (λ (b : Bool). if b then Some s else Some t) (ahead_by_turns_lem d s t v k.lives (o e) k.over)
       go false e = refl
 
   pub scan_by_turns : (d : Bool) (q : Line → Bool) (A : ℕ → Type 0) (c : Found) (ss : List ℕ) → ((s : ℕ) → Memᴰ s ss → Live lines s) → ((s : ℕ) → q (line_at lines s) ≡ true → Over p.x.0 (line_at lines s))

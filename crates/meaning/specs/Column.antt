@@ -5,8 +5,8 @@ use Rattle.std.proofs.Math.Bool.{true, false}
 use mathlib.Core.List.Memᴰ
 use mathlib.Core.List.{List, [], ◌∷◌, map, Memᴰ}
 use native.Mathlib.Omega.{arith}
-use Rattle.meaning.specs.declared.Found.{Found}
-use Rattle.meaning.specs.declared.Found.TheVariants.{Nothing, At}
+use Rattle.meaning.specs.Found.{Found}
+use Rattle.std.specs.Prelude.{None, Some}
 use Rattle.definitions.specs.declared.Point.{Point}
 use Rattle.algebra.specs.Lists.{those_yes, those_no, in_those, of_those}
 use Rattle.algebra.specs.Signs.{positive_is, negative_is}
@@ -152,7 +152,7 @@ module _ (lines : List ℕ) (p : Point) where
           go (inr i) = inr (met u j.lives j.over (upon _ _ _ (mul-le-mul_right (run (the u)) h) i) b.to_north)
 
   -- up to p nothing counts
-  pub seen_start : (d : Bool) (S : ℕ) → Before d S p.y.0 → Seen lines d p S Nothing
+  pub seen_start : (d : Bool) (S : ℕ) → Before d S p.y.0 → Seen lines d p S None
   unfolding Seen counts
   seen_start true S h = no_top (λ u b j. no _ _ _ b.from_south (below→ p (the u) j.passes).1 (mul-le-mul_right (run (the u)) h))
   seen_start false S h = no_top (λ u b j. no _ _ _ (mul-le-mul_right (run (the u)) h) (above→ p (the u) j.passes).1 b.to_north)
@@ -169,7 +169,7 @@ module _ (lines : List ℕ) (p : Point) where
       (λ u j _. record { from_south = of_lt (above→ p (the u) j.passes).1; to_north = height_south T p.x.0 (the u) (f u j.lives) j.over }) t
 
   -- the line found lies within what was seen: the best
-  pub seen_stop : (d : Bool) (S s : ℕ) → Seen lines d p S (At s) → Before d (height_over p.x.0 (the s)) (S * run (the s)) → BestOf lines d p (At s)
+  pub seen_stop : (d : Bool) (S s : ℕ) → Seen lines d p S (Some s) → Before d (height_over p.x.0 (the s)) (S * run (the s)) → BestOf lines d p (Some s)
   unfolding Seen Best Ahead Taller counts
   seen_stop true S s (top _ k f) r = top s k (λ u _ j a. go u j a (order (S * run (the u)) (height_over p.x.0 (the u))))
     where
@@ -261,24 +261,24 @@ own_leaf p k (l ∷ ls) i = go (on p l) refl (meets k l) refl (own_leaf p k ls i
 -- ---- The answer by what was found
 
 module _ (lines : List ℕ) (p : Point) (sound : none_conflict lines ≡ true) (e : those (on p) (live_lines lines) ≡ []) where
-  foremost : (d : Bool) (s : ℕ) → BestOf lines d p (At s) → Foremost lines p d s
+  foremost : (d : Bool) (s : ℕ) → BestOf lines d p (Some s) → Foremost lines p d s
   unfolding Best
   foremost d s (top _ k f) = record { lives = k.lives; passes = k.passes; tops = λ u v b h. f u 0 (record { lives = v; passes = b; over = counts_over d p (line_at lines u) b }) h }
 
-  none_of : (d : Bool) → BestOf lines d p Nothing → (u : ℕ) → Live lines u → counts d p (line_at lines u) ≡ true → ⊥
+  none_of : (d : Bool) → BestOf lines d p None → (u : ℕ) → Live lines u → counts d p (line_at lines u) ≡ true → ⊥
   unfolding Best
   none_of d (no_top f) u v b = f u 0 (record { lives = v; passes = b; over = counts_over d p (line_at lines u) b })
 
-  pub found_below : (s : ℕ) → BestOf lines true p (At s) → from_below s ≡ answering lines p
+  pub found_below : (s : ℕ) → BestOf lines true p (Some s) → from_below s ≡ answering lines p
   found_below s b = (answering_iff lines p sound (from_below s)).1 (foremost_below lines p s (none_through lines p e) (foremost true s b))
 
-  nothing_below : BestOf lines true p Nothing → (u : ℕ) → Live lines u → CountsBelow p (line_at lines u) → ⊥
+  nothing_below : BestOf lines true p None → (u : ℕ) → Live lines u → CountsBelow p (line_at lines u) → ⊥
   unfolding counts
   nothing_below b u v c = none_of true b u v ((counts_below p (line_at lines u)).1 c)
 
-  pub found_above : (s : ℕ) → BestOf lines true p Nothing → BestOf lines false p (At s) → from_above s ≡ answering lines p
+  pub found_above : (s : ℕ) → BestOf lines true p None → BestOf lines false p (Some s) → from_above s ≡ answering lines p
   found_above s n b = (answering_iff lines p sound (from_above s)).1 (foremost_above lines p s (none_through lines p e) (nothing_below n) (foremost false s b))
 
-  pub found_none : BestOf lines true p Nothing → BestOf lines false p Nothing → no_line ≡ answering lines p
+  pub found_none : BestOf lines true p None → BestOf lines false p None → no_line ≡ answering lines p
   unfolding counts
   found_none n b = (answering_iff lines p sound no_line).1 (outside (none_through lines p e) (nothing_below n) (λ u v c. none_of false b u v ((counts_above p (line_at lines u)).1 c)))

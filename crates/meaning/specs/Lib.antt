@@ -13,6 +13,7 @@ pub mod Weigh
 pub mod Rank
 pub mod Height
 pub mod Ahead
+pub mod Found
 pub mod Answering
 pub mod Best
 pub mod Column

@@ -18,8 +18,8 @@ use Rattle.geometry.specs.declared.Stand.TheVariants.{On, Counts, Aside}
 use Rattle.geometry.specs.Means.{line_of, line_from, stand_of}
 use Rattle.geometry.specs.Look.{higher_ends}
 use Rattle.geometry.specs.Slots.{on_slot, counts_slot}
-use Rattle.meaning.specs.declared.Found.{Found}
-use Rattle.meaning.specs.declared.Found.TheVariants.{Nothing, At}
+use Rattle.meaning.specs.Found.{Found}
+use Rattle.std.specs.Prelude.{None, Some}
 use Rattle.meaning.specs.Ahead.{counts, counts_over, ahead_by_turns}
 use Rattle.meaning.specs.Best.{better, scan}
 use Rattle.meaning.specs.Locate.{first_on}
@@ -35,7 +35,7 @@ ahead_ends true l m h k = higher_ends l m h k
 ahead_ends false l m h k = higher_ends m l k h
 
 module _ (lines : List ℕ) (d : Bool) where
-  way_east : {p : Point} {s : ℕ} → OnWay lines d p (At s) → (west_end (line_at lines s)).x.0 < (east_end (line_at lines s)).x.0
+  way_east : {p : Point} {s : ℕ} → OnWay lines d p (Some s) → (west_end (line_at lines s)).x.0 < (east_end (line_at lines s)).x.0
   way_east {p} {s} (one m b) = let o = counts_over d p (line_at lines s) b in omega (arith, o.from_west, o.before_east)
 
   -- e is the line of slot s, turned eastward
@@ -45,31 +45,31 @@ module _ (lines : List ℕ) (d : Bool) where
   turned : {s : ℕ} {l e : code.Line} → IsLine lines s l → (e.a ≡ west_end (line_of l)) × (e.b ≡ east_end (line_of l)) → Turned s e
   turned i h = (h.0 ∙ ap west_end (line_is i), h.1 ∙ ap east_end (line_is i))
 
-  module _ {p : Point} {s t : ℕ} {l m e f : code.Line} (u : OnWay lines d p (At s)) (v : OnWay lines d p (At t)) (i : IsLine lines s l) (j : IsLine lines t m)
+  module _ {p : Point} {s t : ℕ} {l m e f : code.Line} (u : OnWay lines d p (Some s)) (v : OnWay lines d p (Some t)) (i : IsLine lines s l) (j : IsLine lines t m)
       (h : (e.a ≡ west_end (line_of l)) × (e.b ≡ east_end (line_of l))) (k : (f.a ≡ west_end (line_of m)) × (f.b ≡ east_end (line_of m))) where
     pub eastern : (e.a.x.0 < e.b.x.0) × (f.a.x.0 < f.b.x.0)
     eastern = let a = turned i h in let b = turned j k in (rw (a.0, a.1) (way_east u), rw (b.0, b.1) (way_east v))
 
     -- the code's choice is that of the definitions
-    pub first_is : {r b : Bool} → r ≡ ahead_by_turns d (line_of e) (line_of f) → r ≡ b → (if b then At s else At t) ≡ first_of lines d (At t) s
+    pub first_is : {r b : Bool} → r ≡ ahead_by_turns d (line_of e) (line_of f) → r ≡ b → (if b then Some s else Some t) ≡ first_of lines d (Some t) s
     unfolding better
     first_is q g =
         let a = turned i h in
         let b = turned j k in
-        ap (λ (x : Bool). if x then At s else At t)
+        ap (λ (x : Bool). if x then Some s else Some t)
         (sym g ∙ q ∙ ap₂ (ahead_by_turns d) (ap₂ line_from a.0 a.1) (ap₂ line_from b.0 b.1) ∙ ahead_ends d (line_at lines s) (line_at lines t) (way_east u) (way_east v))
 
-  pub first_none : (s : ℕ) → At s ≡ first_of lines d Nothing s
+  pub first_none : (s : ℕ) → Some s ≡ first_of lines d None s
   unfolding better
   first_none s = refl
 
   -- the first of two lines that count is one
-  first_way : {p : Point} {c : Found} {s : ℕ} → OnWay lines d p c → OnWay lines d p (At s) → OnWay lines d p (first_of lines d c s)
+  first_way : {p : Point} {c : Found} {s : ℕ} → OnWay lines d p c → OnWay lines d p (Some s) → OnWay lines d p (first_of lines d c s)
   unfolding better
   first_way none v = v
   first_way {p} {c} {s} (one {s = t} m b) v = go (ahead_by_turns d (line_at lines s) (line_at lines t))
     where
-      go : (h : Bool) → OnWay lines d p (if h then At s else At t)
+      go : (h : Bool) → OnWay lines d p (if h then Some s else Some t)
       go true = v
       go false = one m b
 
@@ -116,14 +116,14 @@ module _ {lines slots : List ℕ} {d : Bool} {p : Point} {c best : Found} {i : �
     next : drop i slots ≡ s ∷ drop (i + 1) slots
     next = drop-cons slots i 0 l ∙ ap (λ (n : ℕ). s ∷ drop n slots) (sym (add-one i))
 
-    pub onward_on : on p (line_at lines s) ≡ true → first_on lines p slots ≡ At s
+    pub onward_on : on p (line_at lines s) ≡ true → first_on lines p slots ≡ Some s
     unfolding first_on
-    onward_on e = h.firsts ∙ ap (first_on lines p) next ∙ ap (λ (b : Bool). if b then At s else first_on lines p (drop (i + 1) slots)) e
+    onward_on e = h.firsts ∙ ap (first_on lines p) next ∙ ap (λ (b : Bool). if b then Some s else first_on lines p (drop (i + 1) slots)) e
 
     turn : {x : Found} → on p (line_at lines s) ≡ false → better lines (counts d p) (ahead_by_turns d) best s ≡ x → OnWay lines d p x → Onward lines slots d p c x (i + 1)
     unfolding first_on scan
     turn e f u = record {
-      firsts = h.firsts ∙ ap (first_on lines p) next ∙ ap (λ (b : Bool). if b then At s else first_on lines p (drop (i + 1) slots)) e;
+      firsts = h.firsts ∙ ap (first_on lines p) next ∙ ap (λ (b : Bool). if b then Some s else first_on lines p (drop (i + 1) slots)) e;
       scans = h.scans ∙ ap (scan lines (counts d p) (ahead_by_turns d) best) next ∙ ap (λ (x : Found). scan lines (counts d p) (ahead_by_turns d) x (drop (i + 1) slots)) f;
       on_way = u;
     }
@@ -132,12 +132,12 @@ module _ {lines slots : List ℕ} {d : Bool} {p : Point} {c best : Found} {i : �
     onward_counts e m = turn e.0 (looks best) (first_way lines d h.on_way (one m e.1))
       where
         looks : (c : Found) → better lines (counts d p) (ahead_by_turns d) c s ≡ first_of lines d c s
-        looks Nothing = unfold better in (ap (λ (b : Bool). if b then At s else Nothing) e.1)
-        looks (At t) = unfold better in (ap (λ (b : Bool). if b && ahead_by_turns d (line_at lines s) (line_at lines t) then At s else At t) e.1)
+        looks None = unfold better in (ap (λ (b : Bool). if b then Some s else None) e.1)
+        looks (Some t) = unfold better in (ap (λ (b : Bool). if b && ahead_by_turns d (line_at lines s) (line_at lines t) then Some s else Some t) e.1)
 
     pub onward_aside : (on p (line_at lines s) ≡ false) × (counts d p (line_at lines s) ≡ false) → Onward lines slots d p c best (i + 1)
     onward_aside e = turn e.0 (aside best) h.on_way
       where
         aside : (c : Found) → better lines (counts d p) (ahead_by_turns d) c s ≡ c
-        aside Nothing = unfold better in (ap (λ (b : Bool). if b then At s else Nothing) e.1)
-        aside (At t) = unfold better in (ap (λ (b : Bool). if b && ahead_by_turns d (line_at lines s) (line_at lines t) then At s else At t) e.1)
+        aside None = unfold better in (ap (λ (b : Bool). if b then Some s else None) e.1)
+        aside (Some t) = unfold better in (ap (λ (b : Bool). if b && ahead_by_turns d (line_at lines s) (line_at lines t) then Some s else Some t) e.1)

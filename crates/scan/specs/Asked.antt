@@ -8,8 +8,8 @@ use Rattle.definitions.specs.Tables.{slots_of, slot_sound, line_at, live_slots, 
 use Rattle.definitions.specs.Lookup.{upper_label, lower_label, on_line, answering}
 use Rattle.geometry.specs.declared.Line as code
 use Rattle.geometry.specs.Range.{End}
-use Rattle.meaning.specs.declared.Found.{Found}
-use Rattle.meaning.specs.declared.Found.TheVariants.{Nothing, At}
+use Rattle.meaning.specs.Found.{Found}
+use Rattle.std.specs.Prelude.{None, Some}
 use Rattle.meaning.specs.Ahead.{counts, ahead_by_turns}
 use Rattle.meaning.specs.Best.{better, scan}
 use Rattle.meaning.specs.Column.{BestOf}
@@ -22,14 +22,14 @@ use Rattle.scan.specs.declared.Scan.TheVariants.{On, Best}
 
 -- no line, or one in the table that counts on the way from p
 pub data OnWay (lines : List ℕ) (d : Bool) (p : Point) : Found → Type 0 where
-  none : OnWay lines d p Nothing
-  one : {s : ℕ} → OnMap lines s → counts d p (line_at lines s) ≡ true → OnWay lines d p (At s)
+  none : OnWay lines d p None
+  one : {s : ℕ} → OnMap lines s → counts d p (line_at lines s) ≡ true → OnWay lines d p (Some s)
 
 -- both lines count from one point, and l is the second
 pub record Compared (lines : List ℕ) (d : Bool) (best : Found) (s : ℕ) (l : code.Line) : Type 0 where
   pub point : Point
   pub first : OnWay lines d point best
-  pub second : OnWay lines d point (At s)
+  pub second : OnWay lines d point (Some s)
   pub is_line : IsLine lines s l
 
 -- of lines that count, the one that comes first
@@ -43,12 +43,12 @@ pub record Scannable (lines slots : List ℕ) (d : Bool) (p : Point) (c : Found)
 
 -- no line goes through p, and e is the best line of c and the slots
 pub record NoneOn (lines : List ℕ) (d : Bool) (p : Point) (c : Found) (slots : List ℕ) (e : Found) : Type 0 where
-  pub none_on : first_on lines p slots ≡ Nothing
+  pub none_on : first_on lines p slots ≡ None
   pub best : e ≡ scan lines (counts d p) (ahead_by_turns d) c slots
   pub on_way : OnWay lines d p e
 
 abbrev pub ScanIs : List ℕ → Bool → Point → Found → List ℕ → Scan → Type 0
-ScanIs lines d p c slots (On s) = first_on lines p slots ≡ At s
+ScanIs lines d p c slots (On s) = first_on lines p slots ≡ Some s
 ScanIs lines d p c slots (Best e) = NoneOn lines d p c slots e
 
 -- the label by which a line answers: the upper of one below the point, the lower of one above

@@ -5,8 +5,8 @@ use Rattle.algebra.specs.Words.{every}
 use Rattle.definitions.specs.declared.Point.{Point}
 use Rattle.definitions.specs.Tables.{is_live, slots_of, slot_sound}
 use Rattle.definitions.specs.Meaning.{Live}
-use Rattle.meaning.specs.declared.Found.{Found}
-use Rattle.meaning.specs.declared.Found.TheVariants.{At}
+use Rattle.meaning.specs.Found.{Found}
+use Rattle.std.specs.Prelude.{Some}
 use Rattle.meaning.specs.Best.{scan}
 use Rattle.meaning.specs.Locate.{first_on}
 use Rattle.tables.specs.Rows.{OnMap}
@@ -28,7 +28,7 @@ none_there {slots = s ∷ more} e u = absurd (omega arith)
 
 -- ---- Slots on the map
 
-pub way_map : {lines : List ℕ} {d : Bool} {p : Point} {s : ℕ} → OnWay lines d p (At s) → OnMap lines s
+pub way_map : {lines : List ℕ} {d : Bool} {p : Point} {s : ℕ} → OnWay lines d p (Some s) → OnMap lines s
 way_map (one m b) = m
 
 pub live_on_map : (lines : List ℕ) (s : ℕ) → every (slot_sound lines) (slots_of lines) ≡ true → Live lines s → OnMap lines s

@@ -10,16 +10,16 @@ ghost use Rattle.scan.specs.Asked.{Compared, first_of, label_by, Scannable, Scan
 
 use definitions::Point;
 use geometry::{Line, Stand, eastward, higher, stand_of};
-use meaning::Found;
-use tables::{line_at, lower_label, row_at, upper_label, wide};
+use tables::{line_at, lower_label, row_at, upper_label};
 
 // Everywhere below, south tells the way from the point: lines below it, the higher first; else lines above it, the lower first.
 
 // What a scan of slots finds: the first line through the point; or, where there is none, the best line on the way.
+// stays: (d) neither case is a failure, and these words say which it is, as `Break` and `Continue` would not
 #[derive(Clone, Copy)]
 pub enum Scan {
     On(u16),
-    Best(Found),
+    Best(Option<u16>),
 }
 
 // By the way, l comes before m.
@@ -34,30 +34,28 @@ fn comes_first(l: Line, m: Line, south: bool) -> bool
 }
 
 // Of the best line so far and that of slot s, which has the ends of l, the one that comes first.
-fn first_of(lines: &[u16], best: Found, s: u16, l: Line, south: bool) -> Found
+fn first_of(lines: &[u16], best: Option<u16>, s: u16, l: Line, south: bool) -> Option<u16>
     requires { Compared lines.now south best s l }
     ensures { result ≡ first_of lines.now south best s }
 {
     match best {
-        Found::Nothing => Found::At(s),
-        Found::At(t) => {
+        None => Some(s),
+        Some(t) => {
             if comes_first(eastward(l), eastward(line_at(lines, t)), south) {
-                return Found::At(s);
+                return Some(s);
             }
-            Found::At(t)
+            best
         }
     }
 }
 
 // The slots looked at in turn, after the best line c of those before.
-pub fn scan_slots(lines: &[u16], slots: &[u16], p: Point, c: Found, south: bool) -> Scan
+pub fn scan_slots(lines: &[u16], slots: &[u16], p: Point, c: Option<u16>, south: bool) -> Scan
     requires { Scannable lines.now slots.now south p c }
     ensures { ScanIs lines.now south p c slots.now result }
 {
     let mut best = c;
-    let mut i: usize = 0;
-    while i < slots.len() {
-        let s = slots[i];
+    for &s in slots {
         let l = line_at(lines, s);
         match stand_of(l, p, south) {
             Stand::On => return Scan::On(s),
@@ -66,7 +64,6 @@ pub fn scan_slots(lines: &[u16], slots: &[u16], p: Point, c: Found, south: bool)
             }
             Stand::Aside => {}
         }
-        i += 1;
     }
     Scan::Best(best)
 }
@@ -75,7 +72,7 @@ pub fn scan_slots(lines: &[u16], slots: &[u16], p: Point, c: Found, south: bool)
 pub fn answer_on(s: u16) -> u32
     ensures { result ≡ 65536 + s }
 {
-    65536 + (s as u32)
+    65536 + u32::from(s)
 }
 
 // The answer by the line of slot s: its upper label if it lies below the point, its lower label if above.
@@ -83,11 +80,11 @@ pub fn answer_by(lines: &[u16], s: u16, south: bool) -> u32
     requires { OnMap lines.now s }
     ensures { result ≡ label_by lines.now south s }
 {
-    let row = row_at(lines, wide(s));
+    let row = row_at(lines, usize::from(s));
     if south {
-        return upper_label(row) as u32;
+        return u32::from(upper_label(row));
     }
-    lower_label(row) as u32
+    u32::from(lower_label(row))
 }
 
 // All live lines looked at.
@@ -95,5 +92,5 @@ pub fn search_all(lines: &[u16], live: &[u16], p: Point, south: bool) -> Scan
     requires { Plain lines.now live.now × End p }
     ensures { SearchIs lines.now south p result }
 {
-    scan_slots(lines, live, p, Found::Nothing, south)
+    scan_slots(lines, live, p, None, south)
 }

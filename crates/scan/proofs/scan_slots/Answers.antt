@@ -1,6 +1,5 @@
 use mathlib.Core.Path.{◌∙◌}
 use native.Mathlib.Omega.{arith}
-use borrow.Author.Rules.{rules}
 use Rattle.algebra.specs.Lists.{mem_at}
 use Rattle.geometry.specs.Range.{end_corner}
 use Rattle.tables.specs.Rows.{line_ends}
@@ -9,28 +8,29 @@ use Rattle.scan.proofs.Scans.{onward_start, onward_on, onward_counts, onward_asi
 use Rattle.scan.proofs.scan_slots.Goals as goal
 use Rattle.scan.proofs.scan_slots.Goals.{in-Counts, in-Aside}
 
-pub loop-i-init : goal.loop-i-init
-loop-i-init c = (search rules, onward_start c.requires.on_way)
+-- the loop ends where the slots do
+pub returns : goal.returns
+returns c = onward_end c.loop-s.invariant (omega (arith, c.loop-s-test.false))
+
+pub loop-s-init : goal.loop-s-init
+loop-s-init c = onward_start c.requires.on_way
 
 pub line_at-l-requires : goal.line_at-l-requires
-line_at-l-requires c = c.requires.on_map _ (mem_at c.args.slots.now c.loop-i.i c.loop-i-test.true)
+line_at-l-requires c = c.requires.on_map _ (mem_at c.args.slots.now c.loop-s.s-index c.loop-s-test.true)
 
 pub stand_of-requires : goal.stand_of-requires
-stand_of-requires c = (line_ends (c.requires.on_map _ (mem_at c.args.slots.now c.loop-i.i c.loop-i-test.true)) c.line_at-l.ensures, end_corner c.requires.point)
+stand_of-requires c = (line_ends (c.requires.on_map _ (mem_at c.args.slots.now c.loop-s.s-index c.loop-s-test.true)) c.line_at-l.ensures, end_corner c.requires.point)
 
 pub returns-in-On : goal.returns-in-On
-returns-in-On c = onward_on c.loop-i.invariant.1 c.loop-i-test.true (stand_tells _ _ _ c.line_at-l.ensures c.stand_of.ensures c.in-On.is)
+returns-in-On c = onward_on c.loop-s.invariant c.loop-s-test.true (stand_tells _ _ _ c.line_at-l.ensures c.stand_of.ensures c.in-On.is)
 
 pub first_of-best-requires : goal.first_of-best-requires
-first_of-best-requires c = let m = c.requires.on_map _ (mem_at c.args.slots.now c.loop-i.i c.loop-i-test.true) in
-    record { point = c.args.p; first = c.loop-i.invariant.1.on_way; second = one m (stand_tells _ _ _ c.line_at-l.ensures c.stand_of.ensures c.in-Counts.is).1; is_line = c.line_at-l.ensures }
+first_of-best-requires c = let m = c.requires.on_map _ (mem_at c.args.slots.now c.loop-s.s-index c.loop-s-test.true) in
+    record { point = c.args.p; first = c.loop-s.invariant.on_way; second = one m (stand_tells _ _ _ c.line_at-l.ensures c.stand_of.ensures c.in-Counts.is).1; is_line = c.line_at-l.ensures }
 
-pub loop-i-preserved : goal.loop-i-preserved
-loop-i-preserved c = let t = c.loop-i-test.true in
+pub loop-s-preserved : goal.loop-s-preserved
+loop-s-preserved c = let t = c.loop-s-test.true in
     elim c.match-stand_of.branch [
-      | in-Counts w ↦ (omega (arith, t), rw (w.best-is ∙ w.first_of-best.ensures) (onward_counts c.loop-i.invariant.1 t (stand_tells _ _ _ c.line_at-l.ensures c.stand_of.ensures w.in-Counts.is) (c.requires.on_map _ (mem_at c.args.slots.now c.loop-i.i t))))
-      | in-Aside w ↦ (omega (arith, t), rw w.best-is (onward_aside c.loop-i.invariant.1 t (stand_tells _ _ _ c.line_at-l.ensures c.stand_of.ensures w.in-Aside.is)))
+      | in-Counts w ↦ rw (w.best-is ∙ w.first_of-best.ensures) (onward_counts c.loop-s.invariant t (stand_tells _ _ _ c.line_at-l.ensures c.stand_of.ensures w.in-Counts.is) (c.requires.on_map _ (mem_at c.args.slots.now c.loop-s.s-index t)))
+      | in-Aside w ↦ rw w.best-is (onward_aside c.loop-s.invariant t (stand_tells _ _ _ c.line_at-l.ensures c.stand_of.ensures w.in-Aside.is))
     ]
-
-pub returns : goal.returns
-returns c = onward_end c.loop-i.invariant.1 c.loop-i-test.false
