@@ -73,17 +73,3 @@ module _ {lines nodes listings index path : List ℕ} {p : Point} {at : Spot} (h
 
     pub in_less : r.block.side < at.block.side
     in_less = gone.less
-
--- ---- Whether two tests agree
-
-pub alike : (a b : Bool) → beq a b ≡ true → a ≡ b
-alike true true e = refl
-alike true false e = no_path e
-alike false true e = no_path e
-alike false false e = refl
-
-pub unlike : (a b : Bool) → beq a b ≡ false → a ≡ not b
-unlike true true e = no_path (sym e)
-unlike true false e = refl
-unlike false true e = refl
-unlike false false e = no_path (sym e)

@@ -1,5 +1,5 @@
 -- What the functions of the path ask, and what their answers say.
-use Rattle.std.specs.Prelude.{◌≡◌, Bool, true, false, not, List, ℕ, suc, ◌+◌, ◌-◌, ◌*◌, ◌/◌, ◌≤◌, ◌<◌, ltb, length, get_or}
+use Rattle.std.specs.Prelude.{◌≡◌, Bool, true, false, not, List, ℕ, Option, None, Some, suc, ◌+◌, ◌-◌, ◌*◌, ◌/◌, ◌≤◌, ◌<◌, ltb, length, get_or}
 use Rattle.definitions.specs.declared.Point.{Point}
 use Rattle.definitions.specs.Shape.{Block, nw_of, ne_of, sw_of, se_of, north, whole_map}
 use Rattle.geometry.specs.Means.{block_of}
@@ -98,11 +98,16 @@ pub record OwnIs (nodes index path : List ℕ) (p : Point) (r : Spot) : Type 0 w
 unfoldable pub went_up : List ℕ → Point → ℕ → Bool
 went_up path p level = ltb (get_or path (4 * level + 2) 0) p.y.0
 
--- one more than the first level, from so many on up, whose other son lies on the way; or 0
-pub record TurnedOff (path : List ℕ) (p : Point) (south : Bool) (from r : ℕ) : Type 0 where
-  pub most : r ≤ from
-  pub passed : (i : ℕ) → r ≤ i → i < from → went_up path p i ≡ not south
-  pub found : (i : ℕ) → r ≡ suc i → went_up path p i ≡ south
+-- the levels that are left where a path is turned off at this one; none where it is nowhere
+abbrev pub left_at : Option ℕ → ℕ
+left_at None = 0
+left_at (Some level) = suc level
+
+-- the first level, from so many on up, whose other son lies on the way
+pub record TurnedOff (path : List ℕ) (p : Point) (south : Bool) (from : ℕ) (r : Option ℕ) : Type 0 where
+  pub most : left_at r ≤ from
+  pub passed : (i : ℕ) → left_at r ≤ i → i < from → went_up path p i ≡ not south
+  pub found : (i : ℕ) → r ≡ Some i → went_up path p i ≡ south
 
 -- what is read beside the path is there
 pub record TurnsOff (index path : List ℕ) (level : ℕ) : Type 0 where

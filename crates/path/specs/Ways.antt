@@ -1,5 +1,5 @@
 -- For callers: up the path, and off it on the way south (true) or north. What lies on the way beside the path comes next to what lies on it.
-use Rattle.std.specs.Prelude.{◌≡◌, ◌⊎◌, Bool, true, false, not, List, length, get_or}
+use Rattle.std.specs.Prelude.{◌≡◌, ◌⊎◌, Option, Bool, true, false, not, List, length, get_or}
 use Rattle.std.proofs.Math.Path.{refl, sym, subst}
 use Rattle.std.proofs.Common.{ap, ◌∙◌, inl, inr, arith}
 use Prim.Native.Nat.{ℕ, suc, ◌+◌, ◌-◌, ◌*◌, ◌≤◌, ◌<◌}
@@ -11,7 +11,7 @@ use Rattle.plane.specs.Compare.{order}
 use Rattle.meaning.specs.Column.{near, far}
 use Rattle.path.specs.declared.Spot.{Spot}
 use Rattle.path.specs.Placed.{Placed}
-use Rattle.path.specs.Asked.{SonEntry, of_upper, of_lower, SonIs, is_upper, is_lower, Stacked, PathTo, top, step, went_up, TurnedOff, TurnsOff, OtherSon, lower_one, upper_one, Beside}
+use Rattle.path.specs.Asked.{SonEntry, of_upper, of_lower, SonIs, is_upper, is_lower, Stacked, PathTo, top, step, went_up, left_at, TurnedOff, TurnsOff, OtherSon, lower_one, upper_one, Beside}
 
 -- a block of the path that the way leaves at this side
 pub record OnPath (lines nodes listings index path : List ℕ) (p : Point) (south : Bool) (level side : ℕ) : Type 0 where
@@ -43,8 +43,8 @@ module _ {lines nodes listings index path : List ℕ} {p : Point} where
           record { block = o.block; path_to = o.path_to; far_is = o.far_is ∙ sym (same_side south t (subst (λ (x : Bool). SonIs a b x k) (ap (λ (n : ℕ). ltb n p.y.0) (sym e.third) ∙ w) g)) }
       go more (inr m) = record { block = k; path_to = subst (λ (n : ℕ). PathTo lines nodes listings index path p n k) {x = suc i} {y = r} (omega arith) (step e q s l t g u); far_is = refl }
 
-  pub turned_up : {south : Bool} {from r : ℕ} {k : Block} → PathTo lines nodes listings index path p from k → TurnedOff path p south from r → OnPath lines nodes listings index path p south r (far south k)
-  turned_up {south} {r = r} u t = up_to south r u t.most t.passed
+  pub turned_up : {south : Bool} {from : ℕ} {r : Option ℕ} {k : Block} → PathTo lines nodes listings index path p from k → TurnedOff path p south from r → OnPath lines nodes listings index path p south (left_at r) (far south k)
+  turned_up {south} {r = r} u t = up_to south (left_at r) u t.most t.passed
 
   pub at_top : {k : Block} {i : ℕ} → PathTo lines nodes listings index path p i k → i ≡ 0 → k ≡ whole_map
   at_top top e = refl

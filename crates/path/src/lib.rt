@@ -7,7 +7,6 @@ ghost use Rattle.path.specs.Asked.{StripOver, SonEntry, SonIs, Entered, GoneIn, 
 
 use definitions::{Half, Point};
 use geometry::{Block, north_east, north_west, south_east, south_west, whole_map};
-use tables::wide;
 use walk::put_four;
 
 // The half of a block that lies over a point: 0 for the west half, 1 for the east, and its two sons.
@@ -79,7 +78,7 @@ fn go_in(index: &[u16], path: &mut [u16], p: Point, at: Spot) -> Spot
     let upper = above.south.0 < p.y.0;
     let son = entry_of(entry, upper);
     Spot {
-        node: wide(index[son]),
+        node: usize::from(index[son]),
         block: son_of(two, upper),
         by: at.by + 1,
     }
@@ -111,19 +110,17 @@ fn went_up(path: &[u16], p: Point, level: usize) -> bool
     path[4 * level + 2] < p.y.0
 }
 
-// From so many levels up the path, to the first at which a son lies beside it on the way: one more than that level, or 0.
-pub fn turn_off(path: &[u16], p: Point, from: usize, south: bool) -> usize
+// From so many levels up the path, the first at which a son lies beside it on the way.
+pub fn turn_off(path: &[u16], p: Point, from: usize, south: bool) -> Option<usize>
     requires { 4 * from ≤ length path.now }
     ensures { TurnedOff path.now p south from result }
 {
-    let mut level = from;
-    while 0 < level {
-        if went_up(path, p, level - 1) == south {
-            return level;
+    for level in (0..from).rev() {
+        if went_up(path, p, level) == south {
+            return Some(level);
         }
-        level -= 1;
     }
-    0
+    None
 }
 
 // The son beside the path at this level: the lower on the way south, the upper on the way north.
@@ -132,27 +129,15 @@ pub fn beside(index: &[u16], path: &[u16], level: usize, south: bool) -> Spot
     ensures { Beside index.now path.now level south result }
 {
     let at = 4 * level;
-    let west = Half(path[at + 1]);
+    let son = entry_of(usize::from(path[at]), !south);
     let seam = path[at + 2];
     let side = path[at + 3];
-    let son = entry_of(wide(path[at]), !south);
-    let node = wide(index[son]);
-    if south {
-        return Spot {
-            node,
-            block: Block {
-                west,
-                south: Half(seam - side),
-                side,
-            },
-            by: 0,
-        };
-    }
+    let foot = if south { seam - side } else { seam };
     Spot {
-        node,
+        node: usize::from(index[son]),
         block: Block {
-            west,
-            south: Half(seam),
+            west: Half(path[at + 1]),
+            south: Half(foot),
             side,
         },
         by: 0,

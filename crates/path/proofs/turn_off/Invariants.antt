@@ -6,7 +6,4 @@ use Rattle.path.specs.Asked.{went_up}
 use Rattle.path.proofs.turn_off.Given as goal
 
 abbrev pub invariant-loop-level : goal.invariant-loop-level
-invariant-loop-level l = (l.level ≤ l.from) × ((i : ℕ) → l.level ≤ i → i < l.from → went_up l.path l.p i ≡ not l.south)
-
-abbrev pub decreases-loop-level : goal.decreases-loop-level
-decreases-loop-level l = l.level
+invariant-loop-level l = (i : ℕ) → l.level ≤ i → i < l.from → went_up l.path l.p i ≡ not l.south
