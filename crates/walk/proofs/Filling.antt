@@ -3,55 +3,11 @@ use mathlib.Core.Path.{◌≡◌, refl, ◌∙◌}
 use mathlib.Core.List.{List, [], ◌∷◌}
 use Prim.Native.Nat.{ℕ, ◌+◌, ◌-◌, ◌*◌, ◌≤◌, ◌<◌}
 use native.Mathlib.Omega.{arith}
-use lib.ListN.{length, get_or, set, replicate, length-set, length-replicate}
+use lib.ListN.{length, get_or, set, replicate, length-replicate}
 use lib.Seq.{get_or-set_same, get_or-set_other}
 use Rattle.definitions.specs.Tree.{Tree, leaf, divided, nodes_of, listings_of}
 use Rattle.walk.specs.Placing.{divided_nodes, divided_listings, some_node, there}
 use Rattle.walk.specs.Index.{after_nodes, after_listings, ne_at, sw_at, se_at, ne_first, sw_first, se_first, Stands, leaf_stands, sons_stand, Standing, Entries, Indexed, leaf_indexed, sons_indexed, Walkable, Divided, Put, Filled}
-
--- ---- Entries of the index
-
-kept : (s : List ℕ) (i v k : ℕ) {x : ℕ} → (k ≡ i → ⊥) → get_or s k 0 ≡ x → get_or (set s i v) k 0 ≡ x
-kept s i v k h e = get_or-set_other s i k v 0 h ∙ e
-
-module _ (s : List ℕ) (n nw ne sw se : ℕ) where
-  abbrev s₁ : List ℕ
-  s₁ = set s (4 * n) nw
-
-  abbrev s₂ : List ℕ
-  s₂ = set s₁ (4 * n + 1) ne
-
-  abbrev s₃ : List ℕ
-  s₃ = set s₂ (4 * n + 2) sw
-
-  -- the writes that follow leave the entries before them as they are
-  after_1 : (k x : ℕ) → k < 4 * n + 1 → get_or s₁ k 0 ≡ x → get_or s₂ k 0 ≡ x
-  after_1 k x h = kept s₁ (4 * n + 1) ne k (λ e. omega arith)
-
-  after_2 : (k x : ℕ) → k < 4 * n + 2 → get_or s₂ k 0 ≡ x → get_or s₃ k 0 ≡ x
-  after_2 k x h = kept s₂ (4 * n + 2) sw k (λ e. omega arith)
-
-  after_3 : (k x : ℕ) → k < 4 * n + 3 → get_or s₃ k 0 ≡ x → get_or (set s₃ (4 * n + 3) se) k 0 ≡ x
-  after_3 k x h = kept s₃ (4 * n + 3) se k (λ e. omega arith)
-
-  elsewhere : (k : ℕ) → (4 * n ≤ k → k < 4 * n + 4 → ⊥) → get_or (set s₃ (4 * n + 3) se) k 0 ≡ get_or s k 0
-  elsewhere k h =
-      kept s₃ (4 * n + 3) se k (λ e. h (omega arith) (omega arith))
-      (kept s₂ (4 * n + 2) sw k (λ e. h (omega arith) (omega arith))
-      (kept s₁ (4 * n + 1) ne k (λ e. h (omega arith) (omega arith))
-      (kept s (4 * n) nw k (λ e. h (omega arith) (omega arith)) refl)))
-
-  pub put : 4 * n + 4 ≤ length s → Put n nw ne sw se s (set s₃ (4 * n + 3) se)
-  put h = record {
-    entries = record {
-      first = after_3 _ nw (omega arith) (after_2 _ nw (omega arith) (after_1 _ nw (omega arith) (get_or-set_same s (4 * n) nw 0 (omega arith))));
-      second = after_3 _ ne (omega arith) (after_2 _ ne (omega arith) (get_or-set_same s₁ (4 * n + 1) ne 0 (simp length-set (omega arith))));
-      third = after_3 _ sw (omega arith) (get_or-set_same s₂ (4 * n + 2) sw 0 (simp length-set (omega arith)));
-      fourth = get_or-set_same s₃ (4 * n + 3) se 0 (simp length-set (omega arith));
-    };
-    below = λ k b. elsewhere k (λ x y. omega arith);
-    above = λ k b. elsewhere k (λ x y. omega arith);
-  }
 
 -- ---- The index of a tree is kept by writes elsewhere
 
@@ -145,7 +101,7 @@ filled_leaf {nodes} {t} {n} {f} s h e r = go h.stands
         record {
           next_node = refl;
           next_listing = rw x;
-          below = λ k b. kept s (4 * n) f k (λ q. omega arith) refl;
+          below = λ k b. get_or-set_other s (4 * n) k f 0 (λ q. omega arith);
           indexed = leaf_indexed (get_or-set_same s (4 * n) f 0 r);
         }
     go (sons_stand x a b c d) = absurd (e x)

@@ -1,12 +1,15 @@
 // The index of the node table, and the leaf that holds a point.
 #![tactic(auto)]
 
-ghost use Rattle.std.specs.Prelude.{◌+◌, ◌*◌, ◌≤◌, ◌<◌, length};
+ghost use Rattle.std.specs.Prelude.{◌+◌, ◌*◌, ◌≤◌, ◌<◌, length, slice_index};
 ghost use Rattle.definitions.specs.Tree.{Tree};
 ghost use Rattle.walk.specs.Index.{Standing, Indexed, Walkable, Divided, Filled, Put, SonOver, Searchable, LeafOver};
 
 use definitions::{Half, Point};
-use tables::{Place, wide};
+use tables::Place;
+
+// The entry of a divided block in the node table; a leaf's is the number of its listings.
+pub const DIVIDED: u16 = 65535;
 
 // A leaf: its block, where its listings start, and how many they are.
 #[derive(Clone, Copy)]
@@ -27,15 +30,12 @@ struct Son {
 }
 
 // Four entries of a table, in its place n.
-pub fn put_four(table: &mut [u16], n: usize, a: u16, b: u16, c: u16, d: u16)
+pub fn put_four(table: &mut [u16], n: usize, four: [u16; 4])
     requires { 4 * n + 4 ≤ length table.old }
-    ensures { Put n a b c d table.old table.new }
+    ensures { Put n (slice_index four 0) (slice_index four 1) (slice_index four 2) (slice_index four 3) table.old table.new }
 {
     let at = 4 * n;
-    table[at] = a;
-    table[at + 1] = b;
-    table[at + 2] = c;
-    table[at + 3] = d;
+    table[at..at + 4].copy_from_slice(&four);
 }
 
 // The entries of a block and of all blocks in it, and the places after it.
@@ -47,11 +47,11 @@ fn index_block(nodes: &[u16], index: &mut [u16], at: Place) -> Place
     let node = at.node;
     let listing = at.listing;
     let count = nodes[node];
-    if count != 65535 {
+    if count != DIVIDED {
         index[4 * node] = listing as u16;
         return Place {
             node: node + 1,
-            listing: listing + wide(count),
+            listing: listing + usize::from(count),
         };
     }
     index_sons(nodes, index, at)
@@ -74,10 +74,12 @@ fn index_sons(nodes: &[u16], index: &mut [u16], at: Place) -> Place
     put_four(
         index,
         at.node,
-        nw.node as u16,
-        ne.node as u16,
-        sw.node as u16,
-        se.node as u16,
+        [
+            nw.node as u16,
+            ne.node as u16,
+            sw.node as u16,
+            se.node as u16,
+        ],
     );
     next
 }
@@ -105,31 +107,28 @@ fn son_over(p: Point, west: u16, south: u16, side: u16) -> Son
     let east = west + side;
     let north = south + side;
     let western = p.x.0 < east;
-    if western {
-        if p.y.0 < north {
-            return Son {
-                west,
-                south,
-                which: 2,
-            };
-        }
-        return Son {
+    let southern = p.y.0 < north;
+    match (western, southern) {
+        (true, true) => Son {
+            west,
+            south,
+            which: 2,
+        },
+        (true, false) => Son {
             west,
             south: north,
             which: 0,
-        };
-    }
-    if p.y.0 < north {
-        return Son {
+        },
+        (false, true) => Son {
             west: east,
             south,
             which: 3,
-        };
-    }
-    Son {
-        west: east,
-        south: north,
-        which: 1,
+        },
+        (false, false) => Son {
+            west: east,
+            south: north,
+            which: 1,
+        },
     }
 }
 
@@ -142,19 +141,19 @@ pub fn leaf_over(nodes: &[u16], index: &[u16], p: Point) -> Leaf
     let mut west: u16 = 0;
     let mut south: u16 = 0;
     let mut side: u16 = 32768;
-    while nodes[node] == 65535 {
+    while nodes[node] == DIVIDED {
         side = side / 2;
         let son = son_over(p, west, south, side);
         west = son.west;
         south = son.south;
         let entry = 4 * node + son.which;
-        node = wide(index[entry]);
+        node = usize::from(index[entry]);
     }
     Leaf {
         west: Half(west),
         south: Half(south),
         side,
-        first: wide(index[4 * node]),
-        count: wide(nodes[node]),
+        first: usize::from(index[4 * node]),
+        count: usize::from(nodes[node]),
     }
 }

@@ -12,7 +12,7 @@ pub index_block-bounds-index-node : goal.index_block-bounds-index-node
 index_block-bounds-index-node t c = omega (arith, there c.requires.standing, c.requires.room)
 
 pub index_block-returns-then-count : goal.index_block-returns-then-count
-index_block-returns-then-count t c = λ u h. rw c.wide.ensures (filled_leaf _ h c.if-count.true (omega (arith, there c.requires.standing, c.requires.room)))
+index_block-returns-then-count t c = λ u h. rw c.from.ensures (filled_leaf _ h c.if-count.true (omega (arith, there c.requires.standing, c.requires.room)))
 
 -- the sons that are still to be walked
 pub index_sons-index_block-ne-requires : goal.index_sons-index_block-ne-requires
