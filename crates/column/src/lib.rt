@@ -10,11 +10,10 @@ ghost use Rattle.column.specs.Asked.{GoneOn, Walking, GoneDown, TakenUp, LeafAsk
 
 use definitions::{Half, Point};
 use geometry::{Block, reaches};
-use meaning::Found;
 use path::{Spot, entry_of, son_of, strip_of};
 use scan::{Scan, scan_slots};
-use tables::{line_at, wide};
-use walk::put_four;
+use tables::line_at;
+use walk::{DIVIDED, put_four};
 
 // Into a divided block beyond the point: to the son that comes first on the way, with the other put by.
 fn go_on(index: &[u16], later: &mut [u16], p: Point, at: Spot, south: bool) -> Spot
@@ -28,14 +27,11 @@ fn go_on(index: &[u16], later: &mut [u16], p: Point, at: Spot, south: bool) -> S
     put_four(
         later,
         at.by,
-        index[after],
-        last.west.0,
-        last.south.0,
-        last.side,
+        [index[after], last.west.0, last.south.0, last.side],
     );
     let son = entry_of(entry, south);
     Spot {
-        node: wide(index[son]),
+        node: usize::from(index[son]),
         block: son_of(two, south),
         by: at.by + 1,
     }
@@ -55,7 +51,7 @@ pub fn go_down(
 {
     let mut at = from;
     let mut node = at.node;
-    while nodes[node] == 65535 {
+    while nodes[node] == DIVIDED {
         at = go_on(index, later, p, at, south);
         node = at.node;
     }
@@ -69,7 +65,7 @@ pub fn take_up(later: &[u16], by: usize) -> Spot
 {
     let at = 4 * by;
     Spot {
-        node: wide(later[at]),
+        node: usize::from(later[at]),
         block: Block {
             west: Half(later[at + 1]),
             south: Half(later[at + 2]),
@@ -87,17 +83,17 @@ pub fn scan_leaf(
     index: &[u16],
     p: Point,
     node: usize,
-    c: Found,
+    c: Option<u16>,
     south: bool,
 ) -> Scan
     requires { LeafAsked lines.now nodes.now listings.now index.now p node c south }
     ensures { LeafTold lines.now nodes.now listings.now index.now p node c south result }
 {
-    let count = wide(nodes[node]);
+    let count = usize::from(nodes[node]);
     if count == 0 {
         return Scan::Best(c);
     }
-    let from = wide(index[4 * node]);
+    let from = usize::from(index[4 * node]);
     scan_slots(lines, &listings[from..from + count], p, c, south)
 }
 
@@ -113,12 +109,12 @@ fn far_side(k: Block, south: bool) -> Half
 }
 
 // Once the best line passes within the leaf or before it, nothing further on comes before it.
-pub fn settled(lines: &[u16], p: Point, k: Block, best: Found, south: bool) -> bool
+pub fn settled(lines: &[u16], p: Point, k: Block, best: Option<u16>, south: bool) -> bool
     requires { Settling lines.now p (block_of k) best south }
     ensures { result ≡ reached lines.now south p (far south (block_of k)) best }
 {
     match best {
-        Found::Nothing => false,
-        Found::At(s) => reaches(line_at(lines, s), p.x, far_side(k, south), south),
+        None => false,
+        Some(s) => reaches(line_at(lines, s), p.x, far_side(k, south), south),
     }
 }

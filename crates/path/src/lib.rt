@@ -7,7 +7,7 @@ ghost use Rattle.path.specs.Asked.{StripOver, SonEntry, SonIs, Entered, GoneIn, 
 
 use definitions::{Half, Point};
 use geometry::{Block, north_east, north_west, south_east, south_west, whole_map};
-use walk::put_four;
+use walk::{DIVIDED, put_four};
 
 // The half of a block that lies over a point: 0 for the west half, 1 for the east, and its two sons.
 #[derive(Clone, Copy)]
@@ -70,10 +70,7 @@ fn go_in(index: &[u16], path: &mut [u16], p: Point, at: Spot) -> Spot
     put_four(
         path,
         at.by,
-        entry as u16,
-        above.west.0,
-        above.south.0,
-        above.side,
+        [entry as u16, above.west.0, above.south.0, above.side],
     );
     let upper = above.south.0 < p.y.0;
     let son = entry_of(entry, upper);
@@ -95,7 +92,7 @@ pub fn own_leaf(nodes: &[u16], index: &[u16], path: &mut [u16], p: Point) -> Spo
         by: 0,
     };
     let mut node = at.node;
-    while nodes[node] == 65535 {
+    while nodes[node] == DIVIDED {
         at = go_in(index, path, p, at);
         node = at.node;
     }

@@ -43,7 +43,7 @@ returns c =
       put = c.put_four.ensures;
       son = c.entry_of-son.result;
       entry = c.entry_of-son.ensures;
-      node_is = c.wide.ensures;
+      node_is = c.from.ensures;
       block_is = c.son_of.ensures;
       by_is = add-one _;
     }

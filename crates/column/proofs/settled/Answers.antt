@@ -7,13 +7,13 @@ use Rattle.column.proofs.Column.{far_most, none_reached, reach_is}
 use Rattle.column.proofs.settled.Goals as goal
 
 pub line_at-requires : goal.line_at-requires
-line_at-requires c = way_map (rw c.in-At.is at c.requires.on_way)
+line_at-requires c = way_map (rw c.in-Some.is at c.requires.on_way)
 
 pub reaches-requires : goal.reaches-requires
-reaches-requires c = (line_ends (way_map (rw c.in-At.is at c.requires.on_way)) c.line_at.ensures, record { to_east = omega (arith, c.requires.point.to_east); to_north = omega (arith, c.far_side.ensures, far_most c.args.south (block_of c.args.k) c.requires.north_in) })
+reaches-requires c = (line_ends (way_map (rw c.in-Some.is at c.requires.on_way)) c.line_at.ensures, record { to_east = omega (arith, c.requires.point.to_east); to_north = omega (arith, c.far_side.ensures, far_most c.args.south (block_of c.args.k) c.requires.north_in) })
 
-pub returns-in-Nothing : goal.returns-in-Nothing
-returns-in-Nothing c = rw c.in-Nothing.is (none_reached _ _ _ _)
+pub returns-in-None : goal.returns-in-None
+returns-in-None c = rw c.in-None.is (none_reached _ _ _ _)
 
-pub returns-in-At : goal.returns-in-At
-returns-in-At c = rw c.in-At.is (reach_is _ c.args.south c.args.p c.far_side.result c.line_at.ensures c.far_side.ensures c.reaches.ensures)
+pub returns-in-Some : goal.returns-in-Some
+returns-in-Some c = rw c.in-Some.is (reach_is _ c.args.south c.args.p c.far_side.result c.line_at.ensures c.far_side.ensures c.reaches.ensures)

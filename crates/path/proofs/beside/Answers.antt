@@ -2,8 +2,7 @@
 use mathlib.Core.Path.{refl, subst}
 use mathlib.Core.Bool.{not}
 use Prim.Native.Nat.{ℕ}
-use Rattle.geometry.specs.Means.{block_of}
-use Rattle.path.specs.Asked.{SonEntry, OtherSon, lower_one, upper_one}
+use Rattle.path.specs.Asked.{SonEntry, lower_one, upper_one}
 use Rattle.path.proofs.beside.Goals as goal
 use Rattle.path.proofs.beside.Goals.{then-south, else-south}
 
