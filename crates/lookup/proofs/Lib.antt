@@ -1,3 +1,3 @@
+pub mod Walk
 pub mod Answering
 pub mod Found
-pub mod Walk

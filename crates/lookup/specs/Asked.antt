@@ -1,25 +1,25 @@
 -- What the functions of the lookup ask, and what their answers say. South (true) or north is the way from the point.
-use Rattle.std.specs.Prelude.{◌≡◌, Bool, true, false, List, ℕ, length, get_or}
+use Rattle.std.specs.Prelude.{◌≡◌, Option, None, Some, Bool, true, false, List, ℕ, ◌≤◌, get_or}
 use Rattle.definitions.specs.declared.Point.{Point}
 use Rattle.definitions.specs.Tables.{live_slots}
 use Rattle.definitions.specs.Lookup.{answer_at}
 use Rattle.geometry.specs.Range.{End}
 use Rattle.meaning.specs.Found.{Found}
-use Rattle.std.specs.Prelude.{None, Some}
 use Rattle.scan.specs.Asked.{OnWay, label_by, BestOn}
 use Rattle.path.specs.declared.Spot.{Spot}
+use Rattle.lookup.specs.declared.Map.{Map}
 use Rattle.path.specs.Placed.{Charted}
 use Rattle.path.specs.Asked.{Held}
+use Rattle.path.specs.Ways.{OnPath}
+use Rattle.column.specs.Asked.{Column}
+use Rattle.meaning.specs.Column.{near, far}
+use Rattle.geometry.specs.Means.{block_of}
+use Rattle.definitions.specs.Shape.{whole_map}
 
 -- a charted map, and its live slots
-pub record Ready (lines nodes listings index live : List ℕ) : Type 0 where
-  pub chart : Charted lines nodes listings index
-  pub all : live ≡ live_slots lines
-
--- room for the path and for what is put by
-pub record Room (path later : List ℕ) : Type 0 where
-  pub path_room : length path ≡ 64
-  pub later_room : length later ≡ 64
+pub record Ready (map : Map) : Type 0 where
+  pub chart : Charted map.lines.now map.nodes.now map.listings.now map.index.now
+  pub all : map.live.now ≡ live_slots map.lines.now
 
 -- ---- What is found on one way
 
@@ -28,10 +28,10 @@ pub record Counting (lines : List ℕ) (d : Bool) (best : Found) : Type 0 where
   pub point : Point
   pub on_way : OnWay lines d point best
 
--- whether there is a line, and the label by which it answers
-abbrev pub ToldBy : List ℕ → Bool → Found → Bool → ℕ → Type 0
-ToldBy lines d None some answer = (some ≡ false) × (answer ≡ 0)
-ToldBy lines d (Some s) some answer = (some ≡ true) × (answer ≡ label_by lines d s)
+-- the label by which the line answers, if there is one
+abbrev pub ToldBy : List ℕ → Bool → Found → Option ℕ → Type 0
+ToldBy lines d None answer = answer ≡ None
+ToldBy lines d (Some s) answer = answer ≡ Some (label_by lines d s)
 
 -- a way is asked: south at once, north when nothing counts below
 pub data Turn (lines : List ℕ) (p : Point) : Bool → Type 0 where
@@ -39,15 +39,31 @@ pub data Turn (lines : List ℕ) (p : Point) : Bool → Type 0 where
   none_below : BestOn lines true p None → Turn lines p false
 
 -- a line answers, or nothing goes through p or counts on the way
-pub record FoundIs (lines : List ℕ) (d : Bool) (p : Point) (some : Bool) (answer : ℕ) : Type 0 where
-  pub answers : some ≡ true → Turn lines p d → answer ≡ answer_at lines p
-  pub nothing : some ≡ false → BestOn lines d p None × (answer ≡ 0)
+pub record FoundIs (lines : List ℕ) (d : Bool) (p : Point) (found : Option ℕ) : Type 0 where
+  pub answers : {answer : ℕ} → found ≡ Some answer → Turn lines p d → answer ≡ answer_at lines p
+  pub nothing : found ≡ None → BestOn lines d p None
 
 -- ---- A walk
 
-pub record WalkAsked (lines nodes listings index live : List ℕ) (p : Point) (path later : List ℕ) (own : Spot) : Type 0 where
-  pub ready : Ready lines nodes listings index live
+-- at a block of the column, with the blocks put by; they go as far as a block of the path
+pub record InColumn (map : Map) (path later : List ℕ) (d : Bool) (p : Point) (at : Spot) (level : ℕ) : Type 0 where
+  pub side : ℕ
+  pub column : Column map.lines.now map.nodes.now map.listings.now map.index.now later d p at side
+  pub on_path : OnPath map.lines.now map.nodes.now map.listings.now map.index.now path p d level side
+  pub low : level ≤ 14
+
+-- a block that begins at side S: from it the walk goes down to the next leaf
+pub record Coming (map : Map) (path later : List ℕ) (d : Bool) (p : Point) (S : ℕ) (at : Spot) (level : ℕ) : Type 0 where
+  pub stands : InColumn map path later d p at level
+  pub begins : near d (block_of at.block) ≡ S
+
+-- the block after one, or the way ends where the map does
+pub data NextIs (map : Map) (path later : List ℕ) (d : Bool) (p : Point) (at : Spot) (level : ℕ) : Option Spot → Type 0 where
+  none_left : far d (block_of at.block) ≡ far d whole_map → NextIs map path later d p at level None
+  next_is : {r : Spot} → Coming map path later d p (far d (block_of at.block)) r level → NextIs map path later d p at level (Some r)
+
+pub record WalkAsked (map : Map) (p : Point) (path : List ℕ) (own : Spot) : Type 0 where
+  pub ready : Ready map
   pub point : End p
-  pub held : Held lines nodes listings index path p own
-  pub whole : get_or nodes own.node 0 ≡ 65535 → ⊥
-  pub room : Room path later
+  pub held : Held map.lines.now map.nodes.now map.listings.now map.index.now path p own
+  pub whole : get_or map.nodes.now own.node 0 ≡ 65535 → ⊥

@@ -7,12 +7,11 @@ ghost use Rattle.definitions.specs.Lookup.{answer_at, answer_to, answers_to};
 ghost use Rattle.geometry.specs.Range.{End};
 ghost use Rattle.scan.specs.Asked.{Plain};
 ghost use Rattle.path.specs.Placed.{Mapped};
-ghost use Rattle.lookup.specs.Asked.{Ready, Room, Counting, ToldBy, FoundIs, WalkAsked};
+ghost use Rattle.lookup.specs.Asked.{Ready, Counting, ToldBy, FoundIs, InColumn, NextIs, WalkAsked};
 
 use column::{go_down, scan_leaf, settled, take_up};
 use definitions::Point;
 use geometry::{on_grid, point_of};
-use meaning::Found;
 use path::{Spot, beside, own_leaf, turn_off};
 use scan::{Scan, answer_by, answer_on, search_all};
 use tables::live_slots;
@@ -30,10 +29,21 @@ const LEAF: usize = 4;
 
 const MOST: usize = 512;
 
-// An answer, and what is left for the next walk.
+// A map to look up in: its tables, the index of its nodes, and its live slots.
 #[derive(Clone, Copy)]
-struct Reply {
-    answer: u32,
+struct Map<'a> {
+    lines: &'a [u16],
+    nodes: &'a [u16],
+    listings: &'a [u16],
+    index: &'a [u16],
+    live: &'a [u16],
+}
+
+// What walks share: the path to the leaf of a point, the blocks put by, and what is left to pay for walks with.
+#[derive(Drop)]
+struct Walks {
+    path: [u16; 64],
+    later: [u16; 64],
     left: usize,
 }
 
@@ -41,284 +51,163 @@ struct Reply {
 fn earn(left: usize, more: usize) -> usize
     ensures { result ≡ min (left + more) 512 }
 {
-    if left < MOST {
-        if more < MOST - left {
-            return left + more;
-        }
-    }
-    MOST
-}
-
-// What is found on one way: whether there is a line through the point or on the way, the answer by it, and what is left.
-#[derive(Clone, Copy)]
-struct Finding {
-    some: bool,
-    answer: u32,
-    left: usize,
-}
-
-fn walked(some: bool, answer: u32, live: &[u16], left: usize) -> Finding
-    ensures { (result.some ≡ some) × (result.answer ≡ answer) }
-{
-    Finding {
-        some,
-        answer,
-        left: earn(left, live.len() / 2),
-    }
-}
-
-// A walk that ends with the best line.
-fn walked_to(lines: &[u16], best: Found, live: &[u16], left: usize, south: bool) -> Finding
-    requires { Counting lines.now south best }
-    ensures { ToldBy lines.now south best result.some result.answer }
-{
-    match best {
-        Found::Nothing => walked(false, 0, live, left),
-        Found::At(s) => walked(true, answer_by(lines, s, south), live, left),
-    }
-}
-
-fn search_plainly(lines: &[u16], live: &[u16], p: Point, left: usize, south: bool) -> Finding
-    requires { Plain lines.now live.now × End p }
-    ensures { FoundIs lines.now south p result.some result.answer }
-{
-    let rest = earn(left, live.len() / 32 * 4);
-    match search_all(lines, live, p, south) {
-        Scan::On(s) => Finding {
-            some: true,
-            answer: answer_on(s),
-            left: rest,
-        },
-        Scan::Best(best) => match best {
-            Found::Nothing => Finding {
-                some: false,
-                answer: 0,
-                left: rest,
-            },
-            Found::At(s) => Finding {
-                some: true,
-                answer: answer_by(lines, s, south),
-                left: rest,
-            },
-        },
-    }
+    left.saturating_add(more).min(MOST)
 }
 
 // What a leaf of so many lines costs.
 fn cost_of(count: u16) -> usize
     ensures { result ≡ 4 + 2 * count }
 {
-    LEAF + 2 * (count as usize)
+    LEAF + 2 * usize::from(count)
 }
 
-// A walk of the column of leaves over p, from its own leaf on. What a leaf costs is asked before it is scanned; if that is not
-// there, a plain search.
-fn walk_column(
-    lines: &[u16],
-    nodes: &[u16],
-    listings: &[u16],
-    index: &[u16],
-    live: &[u16],
-    p: Point,
-    path: &[u16],
-    later: &mut [u16],
-    own: Spot,
-    paid: usize,
-    south: bool,
-) -> Finding
-    requires { WalkAsked lines.now nodes.now listings.now index.now live.now p path.now later.old own }
-    ensures { FoundIs lines.now south p result.some result.answer }
+// The answer by the best line, if there is one.
+fn answer_of(lines: &[u16], best: Option<u16>, south: bool) -> Option<u32>
+    requires { Counting lines.now south best }
+    ensures { ToldBy lines.now south best result }
 {
-    let block = own.block;
-    let mut at = Spot {
-        node: own.node,
-        block,
-        by: 0,
-    };
-    let mut level = own.by;
-    let mut best = Found::Nothing;
-    let mut left = paid;
-    loop {
-        let node = at.node;
-        let cost = cost_of(nodes[node]);
-        if left < cost {
-            return search_plainly(lines, live, p, left, south);
+    best.map(|s| answer_by(lines, s, south))
+}
+
+impl Map<'_> {
+    // What is found on one way: the answer by the line through p, or else by the best line on the way.
+    fn search_plainly(&self, p: Point, left: &mut usize, south: bool) -> Option<u32>
+        requires { Ready self.now × End p }
+        ensures { FoundIs self.now.lines.now south p result }
+    {
+        *left = earn(*left, self.live.len() / 32 * 4);
+        match search_all(self.lines, self.live, p, south) {
+            Scan::On(s) => Some(answer_on(s)),
+            Scan::Best(best) => answer_of(self.lines, best, south),
         }
-        left -= cost;
-        match scan_leaf(lines, nodes, listings, index, p, node, best, south) {
-            Scan::On(s) => return walked(true, answer_on(s), live, left),
-            Scan::Best(d) => {
-                best = d;
-            }
-        }
-        if settled(lines, p, at.block, best, south) {
-            return walked_to(lines, best, live, left, south);
-        }
-        if at.by == 0 {
-            let up = turn_off(path, p, level, south);
-            if up == 0 {
-                return walked_to(lines, best, live, left, south);
-            }
-            level = up - 1;
-            at = beside(index, path, level, south);
-        } else {
-            at = take_up(later, at.by - 1);
-        }
-        at = go_down(nodes, index, later, p, at, south);
     }
-}
 
-// The answer by walks, south and then north.
-fn walk_both(
-    lines: &[u16],
-    nodes: &[u16],
-    listings: &[u16],
-    index: &[u16],
-    live: &[u16],
-    p: Point,
-    path: &mut [u16],
-    later: &mut [u16],
-    paid: usize,
-) -> Reply
-    requires { Ready lines.now nodes.now listings.now index.now live.now × End p × Room path.old later.old }
-    ensures { result.answer ≡ answer_at lines.now p }
-{
-    let own = own_leaf(nodes, index, path, p);
-    let mut south = true;
-    let mut left = paid;
-    loop {
-        let f = walk_column(
-            lines, nodes, listings, index, live, p, path, later, own, left, south,
-        );
-        if f.some | !south {
-            return Reply {
-                answer: f.answer,
-                left: f.left,
-            };
+    // The block after this one on the way, put by or beside the path; the path goes up to its level.
+    fn next_block(
+        &self,
+        walks: &Walks,
+        p: Point,
+        at: Spot,
+        level: &mut usize,
+        south: bool,
+    ) -> Option<Spot>
+        requires { InColumn self.now walks.now.path walks.now.later south p at level.old }
+        ensures { NextIs self.now walks.now.path walks.now.later south p at level.new result }
+    {
+        if at.by > 0 {
+            return Some(take_up(&walks.later, at.by - 1));
         }
-        left = f.left;
-        south = false;
+        *level = turn_off(&walks.path, p, *level, south)?;
+        Some(beside(self.index, &walks.path, *level, south))
     }
-}
 
-// The answer by plain searches, south and then north.
-fn search_both(lines: &[u16], live: &[u16], p: Point, left: usize) -> Reply
-    requires { Plain lines.now live.now × End p }
-    ensures { result.answer ≡ answer_at lines.now p }
-{
-    let below = search_plainly(lines, live, p, left, true);
-    if below.some {
-        return Reply {
-            answer: below.answer,
-            left: below.left,
+    // A walk of the column of leaves over p, from its own leaf on. What a leaf costs is asked before it is scanned; if that is not
+    // there, a plain search.
+    fn walk_column(&self, walks: &mut Walks, p: Point, own: Spot, south: bool) -> Option<u32>
+        requires { WalkAsked self.now p walks.old.path own }
+        ensures found { FoundIs self.now.lines.now south p result }
+        ensures kept { walks.new.path ≡ walks.old.path }
+    {
+        let mut at = Spot {
+            node: own.node,
+            block: own.block,
+            by: 0,
         };
+        let mut level = own.by;
+        let mut best = None;
+        'leaves: loop {
+            let cost = cost_of(self.nodes[at.node]);
+            if walks.left < cost {
+                return self.search_plainly(p, &mut walks.left, south);
+            }
+            walks.left -= cost;
+            match scan_leaf(
+                self.lines,
+                self.nodes,
+                self.listings,
+                self.index,
+                p,
+                at.node,
+                best,
+                south,
+            ) {
+                Scan::On(s) => {
+                    walks.left = earn(walks.left, self.live.len() / 2);
+                    return Some(answer_on(s));
+                }
+                Scan::Best(d) => best = d,
+            }
+            if settled(self.lines, p, at.block, best, south) {
+                break;
+            }
+            let Some(next) = self.next_block(walks, p, at, &mut level, south) else {
+                break;
+            };
+            at = go_down(self.nodes, self.index, &mut walks.later, p, next, south);
+        }
+        walks.left = earn(walks.left, self.live.len() / 2);
+        answer_of(self.lines, best, south)
     }
-    let above = search_plainly(lines, live, p, below.left, false);
-    Reply {
-        answer: above.answer,
-        left: above.left,
-    }
-}
 
-// The answer to a point of the grid.
-fn answer_at(
-    lines: &[u16],
-    nodes: &[u16],
-    listings: &[u16],
-    index: &[u16],
-    live: &[u16],
-    p: Point,
-    path: &mut [u16],
-    later: &mut [u16],
-    left: usize,
-) -> Reply
-    requires { Ready lines.now nodes.now listings.now index.now live.now × End p × Room path.old later.old }
-    ensures { result.answer ≡ answer_at lines.now p }
-{
-    if left <= START {
-        return search_both(lines, live, p, left);
+    // The answer by walks, south and then north.
+    fn walk_both(&self, walks: &mut Walks, p: Point) -> u32
+        requires { Ready self.now × End p }
+        ensures { result ≡ answer_at self.now.lines.now p }
+    {
+        let own = own_leaf(self.nodes, self.index, &mut walks.path, p);
+        if let Some(answer) = self.walk_column(walks, p, own, true) {
+            return answer;
+        }
+        self.walk_column(walks, p, own, false).unwrap_or(0)
     }
-    walk_both(
-        lines,
-        nodes,
-        listings,
-        index,
-        live,
-        p,
-        path,
-        later,
-        left - START,
-    )
-}
 
-// The answer to a pair of grid numbers, any 16-bit numbers.
-fn answer_to(
-    lines: &[u16],
-    nodes: &[u16],
-    listings: &[u16],
-    index: &[u16],
-    live: &[u16],
-    x: u16,
-    y: u16,
-    path: &mut [u16],
-    later: &mut [u16],
-    left: usize,
-) -> Reply
-    requires { Ready lines.now nodes.now listings.now index.now live.now × Room path.old later.old }
-    ensures { result.answer ≡ answer_to lines.now x y }
-{
-    if on_grid(x) & on_grid(y) {
-        return answer_at(
-            lines,
-            nodes,
-            listings,
-            index,
-            live,
-            point_of(x, y),
-            path,
-            later,
-            left,
-        );
+    // The answer by plain searches, south and then north.
+    fn search_both(&self, left: &mut usize, p: Point) -> u32
+        requires { Ready self.now × End p }
+        ensures { result ≡ answer_at self.now.lines.now p }
+    {
+        if let Some(answer) = self.search_plainly(p, left, true) {
+            return answer;
+        }
+        self.search_plainly(p, left, false).unwrap_or(0)
     }
-    Reply {
-        answer: 4294967295,
-        left,
-    }
-}
 
-// The answers to all points, two numbers each.
-fn answer_each(
-    lines: &[u16],
-    nodes: &[u16],
-    listings: &[u16],
-    index: &[u16],
-    live: &[u16],
-    points: &[u16],
-    answers: &mut [u32],
-    path: &mut [u16],
-    later: &mut [u16],
-)
-    requires { Ready lines.now nodes.now listings.now index.now live.now × (length points.now ≡ 2 * length answers.old) × Room path.old later.old }
-    ensures { answers.new ≡ answers_to lines.now points.now }
-{
-    let mut at: usize = 0;
-    let mut left: usize = MOST;
-    while at < answers.len() {
-        let r = answer_to(
-            lines,
-            nodes,
-            listings,
-            index,
-            live,
-            points[2 * at],
-            points[2 * at + 1],
-            path,
-            later,
-            left,
-        );
-        answers[at] = r.answer;
-        left = r.left;
-        at += 1;
+    // The answer to a point of the grid.
+    fn answer_at(&self, walks: &mut Walks, p: Point) -> u32
+        requires { Ready self.now × End p }
+        ensures { result ≡ answer_at self.now.lines.now p }
+    {
+        if walks.left <= START {
+            return self.search_both(&mut walks.left, p);
+        }
+        walks.left -= START;
+        self.walk_both(walks, p)
+    }
+
+    // The answer to a pair of grid numbers, any 16-bit numbers.
+    fn answer_to(&self, walks: &mut Walks, x: u16, y: u16) -> u32
+        requires { Ready self.now }
+        ensures { result ≡ answer_to self.now.lines.now x y }
+    {
+        if on_grid(x) & on_grid(y) {
+            return self.answer_at(walks, point_of(x, y));
+        }
+        u32::MAX
+    }
+
+    // The answers to all points, two numbers each.
+    fn answer_each(&self, points: &[u16], answers: &mut [u32])
+        requires { Ready self.now × (length points.now ≡ 2 * length answers.old) }
+        ensures { answers.new ≡ answers_to self.now.lines.now points.now }
+    {
+        let mut walks = Walks {
+            path: [0; 64],
+            later: [0; 64],
+            left: MOST,
+        };
+        for (at, answer) in answers.iter_mut().enumerate() {
+            *answer = self.answer_to(&mut walks, points[2 * at], points[2 * at + 1]);
+        }
     }
 }
 
@@ -335,19 +224,14 @@ pub fn answer_all(
 {
     let mut index = [0u16; 65536];
     let mut live = [0u16; 1024];
-    let mut path = [0u16; 64];
-    let mut later = [0u16; 64];
     let n = live_slots(lines, &mut live);
     index_nodes(nodes, &mut index);
-    answer_each(
+    let map = Map {
         lines,
         nodes,
         listings,
-        &index,
-        &live[..n],
-        points,
-        answers,
-        &mut path,
-        &mut later,
-    );
+        index: &index,
+        live: &live[..n],
+    };
+    map.answer_each(points, answers);
 }
