@@ -2,10 +2,10 @@
 use Rattle.std.specs.Prelude.{if◌then◌else◌}
 use mathlib.Core.Path.{◌≡◌, refl, sym, ap, ◌∙◌}
 use mathlib.Core.Bool.{Bool, true, false, not, ◌||◌}
-use mathlib.Core.List.{List}
-use Prim.Native.Nat.{ℕ, ◌+◌, ◌<◌}
+use mathlib.Core.List.{List, [], ◌∷◌}
+use lib.ListN.{get_or}
+use Prim.Native.Nat.{ℕ, zero, suc, ◌+◌, ◌≤◌, ◌<◌}
 use native.Mathlib.Omega.{arith}
-use Rattle.std.specs.Option.{unwrap_or}
 use Rattle.definitions.specs.declared.Point.{Point}
 use Rattle.definitions.specs.Tables.{none_conflict}
 use Rattle.definitions.specs.Lookup.{on_line, answering, answer_of, answer_at}
@@ -36,8 +36,27 @@ module _ {lines : List ℕ} {p : Point} where
     found_best d None b t = record { answers = λ e. cc; nothing = λ _. b }
     found_best d (Some s) b t = record { answers = λ e turn. let w : _ ≡ label_by lines d s = cc in w ∙ by_label d turn b; nothing = λ e. cc }
 
-    -- the second way answers, or nothing counts either way and the answer is 0
-    pub found_last : (found : Option ℕ) {answer : ℕ} → answer ≡ unwrap_or found 0 → FoundIs lines false p found → BestOn lines true p None → answer ≡ answer_at lines p
-    unfolding answer_at answer_of
-    found_last (Some a) e f n = e ∙ f.answers refl (none_below n)
-    found_last None e f n = e ∙ ap (answer_of lines) (found_none lines p apart n.none_on n.best (f.nothing refl).best)
+-- ---- The ways, one after the other
+
+abbrev way_at : ℕ → Bool
+way_at i = get_or (true ∷ false ∷ []) i false
+
+-- nothing was found on the ways before this one
+pub record Passed (lines : List ℕ) (p : Point) (i : ℕ) : Type 0 where
+  pub below : 0 < i → BestOn lines true p None
+  pub above : 1 < i → BestOn lines false p None
+
+module _ {lines : List ℕ} {p : Point} where
+  pub turn_at : (i : ℕ) → Passed lines p i → Turn lines p (way_at i)
+  turn_at zero h = at_once
+  turn_at (suc zero) h = none_below (h.below (omega arith))
+  turn_at (suc (suc i)) h = none_below (h.below (omega arith))
+
+  pub pass : (i : ℕ) {found : Option ℕ} → i < 2 → FoundIs lines (way_at i) p found → found ≡ None → Passed lines p i → Passed lines p (i + 1)
+  pass zero l f e h = record { below = λ _. f.nothing e; above = λ k. absurd (omega arith) }
+  pass (suc zero) l f e h = record { below = λ _. h.below (omega arith); above = λ _. f.nothing e }
+  pass (suc (suc i)) l f e h = absurd (omega arith)
+
+  pub none_found : (i : ℕ) → none_conflict lines ≡ true → 2 ≤ i → Passed lines p i → 0 ≡ answer_at lines p
+  unfolding answer_at answer_of
+  none_found i apart l h = let n = h.below (omega arith) in ap (answer_of lines) (found_none lines p apart n.none_on n.best (h.above (omega arith)).best)

@@ -67,3 +67,9 @@ pub record WalkAsked (map : Map) (p : Point) (path : List ℕ) (own : Spot) : Ty
   pub point : End p
   pub held : Held map.lines.now map.nodes.now map.listings.now map.index.now path p own
   pub whole : get_or map.nodes.now own.node 0 ≡ 65535 → ⊥
+
+-- a way is asked from this leaf by a walk, or from none by a plain search
+pub record AskedFrom (map : Map) (p : Point) (path : List ℕ) (own : Option Spot) : Type 0 where
+  pub ready : Ready map
+  pub point : End p
+  pub walk : {leaf : Spot} → own ≡ Some leaf → WalkAsked map p path leaf

@@ -7,7 +7,7 @@ ghost use Rattle.definitions.specs.Lookup.{answer_at, answer_to, answers_to};
 ghost use Rattle.geometry.specs.Range.{End};
 ghost use Rattle.scan.specs.Asked.{Plain};
 ghost use Rattle.path.specs.Placed.{Mapped};
-ghost use Rattle.lookup.specs.Asked.{Ready, Counting, ToldBy, FoundIs, InColumn, NextIs, WalkAsked};
+ghost use Rattle.lookup.specs.Asked.{Ready, Counting, ToldBy, FoundIs, InColumn, NextIs, WalkAsked, AskedFrom};
 
 use column::{go_down, scan_leaf, settled, take_up};
 use definitions::Point;
@@ -149,39 +149,42 @@ impl Map<'_> {
         answer_of(self.lines, best, south)
     }
 
-    // The answer by walks, south and then north.
-    fn walk_both(&self, walks: &mut Walks, p: Point) -> u32
+    // The leaf to walk from, if a walk is paid for.
+    fn start(&self, walks: &mut Walks, p: Point) -> Option<Spot>
         requires { Ready self.now × End p }
-        ensures { result ≡ answer_at self.now.lines.now p }
+        ensures { AskedFrom self.now p walks.new.path result }
     {
-        let own = own_leaf(self.nodes, self.index, &mut walks.path, p);
-        if let Some(answer) = self.walk_column(walks, p, own, true) {
-            return answer;
+        if walks.left <= START {
+            return None;
         }
-        self.walk_column(walks, p, own, false).unwrap_or(0)
+        walks.left -= START;
+        Some(own_leaf(self.nodes, self.index, &mut walks.path, p))
     }
 
-    // The answer by plain searches, south and then north.
-    fn search_both(&self, left: &mut usize, p: Point) -> u32
-        requires { Ready self.now × End p }
-        ensures { result ≡ answer_at self.now.lines.now p }
+    // What is found on one way, by a walk from this leaf or else by a plain search.
+    fn ask(&self, walks: &mut Walks, p: Point, own: Option<Spot>, south: bool) -> Option<u32>
+        requires { AskedFrom self.now p walks.old.path own }
+        ensures found { FoundIs self.now.lines.now south p result }
+        ensures kept { walks.new.path ≡ walks.old.path }
     {
-        if let Some(answer) = self.search_plainly(p, left, true) {
-            return answer;
+        match own {
+            Some(leaf) => self.walk_column(walks, p, leaf, south),
+            None => self.search_plainly(p, &mut walks.left, south),
         }
-        self.search_plainly(p, left, false).unwrap_or(0)
     }
 
-    // The answer to a point of the grid.
+    // The answer to a point of the grid: that of the first way on which anything is found, south and then north.
     fn answer_at(&self, walks: &mut Walks, p: Point) -> u32
         requires { Ready self.now × End p }
         ensures { result ≡ answer_at self.now.lines.now p }
     {
-        if walks.left <= START {
-            return self.search_both(&mut walks.left, p);
+        let own = self.start(walks, p);
+        for south in [true, false] {
+            if let Some(answer) = self.ask(walks, p, own, south) {
+                return answer;
+            }
         }
-        walks.left -= START;
-        self.walk_both(walks, p)
+        0
     }
 
     // The answer to a pair of grid numbers, any 16-bit numbers.

@@ -35,7 +35,10 @@ pub fn put_four(table: &mut [u16], n: usize, four: [u16; 4])
     ensures { Put n (slice_index four 0) (slice_index four 1) (slice_index four 2) (slice_index four 3) table.old table.new }
 {
     let at = 4 * n;
-    table[at..at + 4].copy_from_slice(&four);
+    table[at] = four[0];
+    table[at + 1] = four[1];
+    table[at + 2] = four[2];
+    table[at + 3] = four[3];
 }
 
 // The entries of a block and of all blocks in it, and the places after it.
