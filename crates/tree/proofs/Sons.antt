@@ -3,10 +3,10 @@ use mathlib.Core.Path.{◌≡◌, refl, sym, ap, ◌∙◌, subst}
 use mathlib.Core.Logic.{inl}
 use mathlib.Core.Bool.{Bool, true, false}
 use mathlib.Core.List.{List, [], ◌∷◌, ◌++◌, map, Memᴰ}
-use Prim.Native.Nat.{ℕ, zero, suc, ◌+◌, ◌-◌, ◌*◌, ◌/◌, ◌^◌, ◌≤◌}
+use Prim.Native.Nat.{ℕ, zero, suc, ◌+◌, ◌-◌, ◌*◌, ◌/◌, ◌^◌, ◌≤◌, ◌<◌}
 use native.Mathlib.Nat.{mul-le-mul_right}
 use native.Mathlib.Omega.{arith}
-use lib.ListN.{length, take}
+use lib.ListN.{length, take, get_or}
 use lib.Seq.{slice}
 use Rattle.algebra.specs.Lists.{those_yes, of_those, slice_same}
 use Rattle.algebra.specs.Tests.{no_path}
@@ -19,6 +19,8 @@ use Rattle.meaning.specs.Fewer.{some_node}
 use Rattle.meaning.specs.Leaves.{base_local, candidates}
 use Rattle.meaning.specs.Rules.{by_leaf, by_divided}
 use Rattle.tables.specs.declared.Place.{Place}
+use Rattle.geometry.specs.declared.Block as code
+use Rattle.geometry.specs.Means.{block_of}
 use Rattle.candidates.specs.declared.Span.{Span}
 use Rattle.candidates.specs.declared.Spans.{Spans}
 use Rattle.std.specs.Prelude.{Option, Some, None}
@@ -142,6 +144,25 @@ ready_down {lines} {w} {c} {k} {level} {at} {N} {L} r f p N' hn hl =
     up : suc (level - 1) ≡ level
     up = omega arith
 
+-- ---- the four sons, one after another
+abbrev pub son_block : ℕ → Block → Block
+son_block zero k = nw_of k
+son_block (suc zero) k = ne_of k
+son_block (suc (suc zero)) k = sw_of k
+son_block (suc (suc (suc i))) k = se_of k
+
+-- the lists of the first i of them
+abbrev pub first_sons : ℕ → (Block → List ℕ) → Block → List ℕ
+first_sons zero f k = []
+first_sons (suc i) f k = first_sons i f k ++ f (son_block i k)
+
+-- after the first i sons: the list of slots is as the spread left it below the sons' free place
+pub record SoFar (lines w₀ : List ℕ) (c : Span) (k : Block) (n : ℕ) (at : Place) (w₁ s t : List ℕ) (i : ℕ) (s₁ t₁ w : List ℕ) (x : Option Place) : Type 0 where
+  pub grown : Grown (first_sons i (block_nodes lines (slice c.from c.to w₀) n) k) (first_sons i (block_listings lines (slice c.from c.to w₀) n) k) at s t s₁ t₁ (c.free + 4 * (c.to - c.from)) w₁ w x
+  pub slots_kept : length w ≡ length w₀
+  pub nodes_kept : length s₁ ≡ length s
+  pub listings_kept : length t₁ ≡ length t
+
 module _ {lines w₀ : List ℕ} {c : Span} {k : Block} {n : ℕ} {at : Place} {N L : ℕ} (ready : Ready lines w₀ c k (suc n) at N L) where
   abbrev cs : List ℕ
   cs = slice c.from c.to w₀
@@ -165,72 +186,89 @@ module _ {lines w₀ : List ℕ} {c : Span} {k : Block} {n : ℕ} {at : Place} {
         even = omega arith;
       }
 
-  -- ---- after some of the sons: the list of slots is as the spread left it below the sons' free place
-  module _ {w₁ : List ℕ} {spans : Spans} (spread : Spread lines k c w₀ w₁ spans) (s t : List ℕ) where
-    pub record SoFar (part : (Block → List ℕ) → List ℕ) (s₁ t₁ w : List ℕ) (x : Option Place) : Type 0 where
-      pub grown : Grown (part (block_nodes lines cs n)) (part (block_listings lines cs n)) at s t s₁ t₁ free w₁ w x
-      pub slots_kept : length w ≡ length w₀
-      pub nodes_kept : length s₁ ≡ length s
-      pub listings_kept : length t₁ ≡ length t
+  pub no_son : {w₁ s t : List ℕ} → length w₁ ≡ length w₀ → at.node ≤ length s → at.listing ≤ length t → SoFar lines w₀ c k n at w₁ s t 0 s t w₁ (Some at)
+  unfolding over
+  no_son len hn hl =
+      record {
+        grown = record { built = record { next_node = omega arith; next_listing = omega arith; nodes_fit = hn; listings_fit = hl; nodes_are = refl; listings_are = refl }; below = refl };
+        slots_kept = len;
+        nodes_kept = refl;
+        listings_kept = refl;
+      }
 
-    pub no_son : length w₁ ≡ length w₀ → at.node ≤ length s → at.listing ≤ length t → SoFar (λ f. []) s t w₁ (Some at)
-    unfolding over
-    no_son len hn hl =
+  -- a son's candidates and block
+  pub record SonAt (w₁ : List ℕ) (i : ℕ) (p : Span × code.Block) : Type 0 where
+    pub is : block_of p.1 ≡ son_block i k
+    pub of_tree : OfTree (son_block i k) n
+    pub son : SonOf lines (son_block i k) c w₀ w₁ p.0
+
+  pub son_at : {w₁ : List ℕ} {spans : Spans} → Spread lines k c w₀ w₁ spans → (nw ne sw se : code.Block) → block_of nw ≡ nw_of k → block_of ne ≡ ne_of k → block_of sw ≡ sw_of k → block_of se ≡ se_of k
+      → (i : ℕ) → i < 4 → (d : Span × code.Block) → SonAt w₁ i (get_or ((spans.nw, nw) ∷ (spans.ne, ne) ∷ (spans.sw, sw) ∷ (spans.se, se) ∷ []) i d)
+  son_at r nw ne sw se a b e f zero h d = record { is = a; of_tree = nw_of_tree ready.of_tree; son = r.nw }
+  son_at r nw ne sw se a b e f (suc zero) h d = record { is = b; of_tree = ne_of_tree ready.of_tree; son = r.ne }
+  son_at r nw ne sw se a b e f (suc (suc zero)) h d = record { is = e; of_tree = sw_of_tree ready.of_tree; son = r.sw }
+  son_at r nw ne sw se a b e f (suc (suc (suc zero))) h d = record { is = f; of_tree = se_of_tree ready.of_tree; son = r.se }
+  son_at r nw ne sw se a b e f (suc (suc (suc (suc i)))) h d = absurd (omega arith)
+
+  module _ {w₁ s t : List ℕ} {i : ℕ} {s₁ t₁ w : List ℕ} {x : Option Place} (so : SoFar lines w₀ c k n at w₁ s t i s₁ t₁ w x) where
+    stop : x ≡ None → SoFar lines w₀ c k n at w₁ s t (suc i) s₁ t₁ w None
+    stop e =
         record {
-          grown = record { built = record { next_node = omega arith; next_listing = omega arith; nodes_fit = hn; listings_fit = hl; nodes_are = refl; listings_are = refl }; below = refl };
-          slots_kept = len;
-          nodes_kept = refl;
-          listings_kept = refl;
+          grown = grown_stop so.grown e (block_nodes lines cs n (son_block i k)) (block_listings lines cs n (son_block i k));
+          slots_kept = so.slots_kept;
+          nodes_kept = so.nodes_kept;
+          listings_kept = so.listings_kept;
         }
 
-    module _ {part : (Block → List ℕ) → List ℕ} {s₁ t₁ w : List ℕ} {x : Option Place} (so : SoFar part s₁ t₁ w x) where
-      -- all of them, or no room for one
-      pub sons_grown : Grown (part (block_nodes lines cs n)) (part (block_listings lines cs n)) at s t s₁ t₁ c.free w₀ w x
-      sons_grown = grown_low so.grown c.free w₀ (omega arith) spread.below
+    -- the next son
+    module _ {p : Place} (e : x ≡ Some p) {q : Span × code.Block} (next : SonAt w₁ i q) where
+      abbrev b : Block
+      b = son_block i k
 
-      pub sons_stop : x ≡ None → (b : Block) → SoFar (λ f. part f ++ f b) s₁ t₁ w None
-      sons_stop e b =
+      held : slice q.0.from q.0.to w ≡ those (meets_at lines b) cs
+      held = let u = next.son in slice_same q.0.from q.0.to free w₁ w (omega arith) so.grown.below ∙ u.holds
+
+      pub son_ready : Ready lines w q.0 (block_of q.1) n p (length s₁) (length t₁)
+      unfolding meets_at
+      son_ready =
+          let f = grown_fit so.grown e in
+          let u = next.son in
+          rw next.is
+          (record {
+            candidates = λ s m. let v = of_those (meets_at lines b) cs (subst (λ (z : List ℕ). Memᴰ s z) held m) in record { good = (ready.candidates s v.0).good; met = v.1 };
+            span = u.span;
+            below = u.below;
+            few = omega arith;
+            work = work;
+            of_tree = next.of_tree;
+            node = f.0;
+            listing = f.1;
+          })
+        where
+          work : q.0.free + 4 * ((q.0.to - q.0.from) * n) ≤ length w
+          work = let g = ready.work in let l = so.slots_kept in let u = next.son in omega (arith, mul-le-mul_right {m = q.0.to - q.0.from} {n = c.to - c.from} n (omega arith))
+
+      pub son_then : {s₂ t₂ w₂ : List ℕ} {y : Option Place}
+          → Grown (block_nodes lines (slice q.0.from q.0.to w) n (block_of q.1)) (block_listings lines (slice q.0.from q.0.to w) n (block_of q.1)) p s₁ t₁ s₂ t₂ q.0.free w w₂ y
+          → length w₂ ≡ length w → length s₂ ≡ length s₁ → length t₂ ≡ length t₁ → SoFar lines w₀ c k n at w₁ s t (suc i) s₂ t₂ w₂ y
+      unfolding block_nodes block_listings
+      son_then {s₂} {t₂} {w₂} {y} g kw ks kt =
           record {
-            grown = grown_stop so.grown e (block_nodes lines cs n b) (block_listings lines cs n b);
-            slots_kept = so.slots_kept;
-            nodes_kept = so.nodes_kept;
-            listings_kept = so.listings_kept;
+            grown =
+                grown_then so.grown e
+                (subst (λ (z : Tree). Grown (nodes_of z) (listings_of z) p s₁ t₁ s₂ t₂ free w w₂ y) (tree_of_candidates lines cs next.of_tree) (rw (next.is, held, next.son.next) at g));
+            slots_kept = kw ∙ so.slots_kept;
+            nodes_kept = ks ∙ so.nodes_kept;
+            listings_kept = kt ∙ so.listings_kept;
           }
 
-      -- the son in block b is next
-      module _ {p : Place} (e : x ≡ Some p) (b kk : Block) (is : kk ≡ b) (o : OfTree b n) {sc : Span} (son : SonOf lines b c w₀ w₁ sc) where
-        held : slice sc.from sc.to w ≡ those (meets_at lines b) cs
-        held = slice_same sc.from sc.to free w₁ w (omega arith) so.grown.below ∙ son.holds
+  module _ {w₁ : List ℕ} {spans : Spans} (spread : Spread lines k c w₀ w₁ spans) {s t s₁ t₁ w : List ℕ} {x : Option Place} where
+    -- all of them
+    pub sons_grown : {i : ℕ} → i ≡ 4 → SoFar lines w₀ c k n at w₁ s t i s₁ t₁ w x → Grown (sons_nodes lines cs n k) (sons_listings lines cs n k) at s t s₁ t₁ c.free w₀ w x
+    unfolding sons_nodes sons_listings
+    sons_grown {i} e so = grown_low (rw e at so).grown c.free w₀ (omega arith) spread.below
 
-        pub son_ready : Ready lines w sc kk n p (length s₁) (length t₁)
-        unfolding meets_at
-        son_ready =
-            let q = grown_fit so.grown e in
-            rw is
-            (record {
-              candidates = λ s m. let q = of_those (meets_at lines b) cs (subst (λ (z : List ℕ). Memᴰ s z) held m) in record { good = (ready.candidates s q.0).good; met = q.1 };
-              span = son.span;
-              below = son.below;
-              few = omega arith;
-              work = work;
-              of_tree = o;
-              node = q.0;
-              listing = q.1;
-            })
-          where
-            work : sc.free + 4 * ((sc.to - sc.from) * n) ≤ length w
-            work = let g = ready.work in let l = so.slots_kept in omega (arith, mul-le-mul_right {m = sc.to - sc.from} {n = c.to - c.from} n (omega arith))
-
-        pub son_then : {s₂ t₂ w₂ : List ℕ} {y : Option Place}
-            → Grown (block_nodes lines (slice sc.from sc.to w) n kk) (block_listings lines (slice sc.from sc.to w) n kk) p s₁ t₁ s₂ t₂ sc.free w w₂ y
-            → length w₂ ≡ length w → length s₂ ≡ length s₁ → length t₂ ≡ length t₁ → SoFar (λ f. part f ++ f b) s₂ t₂ w₂ y
-        unfolding block_nodes block_listings
-        son_then {s₂} {t₂} {w₂} {y} g kw ks kt =
-            record {
-              grown =
-                  grown_then so.grown e
-                  (subst (λ (z : Tree). Grown (nodes_of z) (listings_of z) p s₁ t₁ s₂ t₂ free w w₂ y) (tree_of_candidates lines cs o) (rw (is, held, son.next) at g));
-              slots_kept = kw ∙ so.slots_kept;
-              nodes_kept = ks ∙ so.nodes_kept;
-              listings_kept = kt ∙ so.listings_kept;
-            }
+  -- or no room for one
+  pub no_more : {w₁ s t s₁ t₁ w : List ℕ} (j : ℕ) {i : ℕ} → j + i ≡ 4 → SoFar lines w₀ c k n at w₁ s t i s₁ t₁ w None → SoFar lines w₀ c k n at w₁ s t 4 s₁ t₁ w None
+  no_more zero {i} e so = let f : i ≡ 4 = omega arith in rw f at so
+  no_more (suc j) e so = no_more j (omega arith) (stop so refl)

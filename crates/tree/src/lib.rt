@@ -89,19 +89,17 @@ pub fn build_sons(
         c.free slots.old slots.new result }
 {
     let s = spread(lines, slots, c, k);
-    let p = build_block(
-        lines,
-        slots,
-        s.nw,
-        north_west(k),
-        level,
-        nodes,
-        listings,
-        at,
-    )?;
-    let q = build_block(lines, slots, s.ne, north_east(k), level, nodes, listings, p)?;
-    let r = build_block(lines, slots, s.sw, south_west(k), level, nodes, listings, q)?;
-    build_block(lines, slots, s.se, south_east(k), level, nodes, listings, r)
+    let sons = [
+        (s.nw, north_west(k)),
+        (s.ne, north_east(k)),
+        (s.sw, south_west(k)),
+        (s.se, south_east(k)),
+    ];
+    let mut next = at;
+    for (son, block) in sons {
+        next = build_block(lines, slots, son, block, level, nodes, listings, next)?;
+    }
+    Some(next)
 }
 
 // The tree of the live lines, from the start of both tables.

@@ -2,6 +2,7 @@
 use mathlib.Core.Path.{◌≡◌, refl, sym, ap, ◌∙◌, subst}
 use mathlib.Core.List.{List, map}
 use Prim.Native.Nat.{ℕ, ◌-◌}
+use native.Mathlib.Numerals.{add-one}
 use native.Mathlib.Omega.{arith}
 use lib.ListN.{take, drop, length-set}
 use lib.Seq.{slice}
@@ -11,9 +12,8 @@ use Rattle.definitions.specs.Tables.{line_at}
 use Rattle.definitions.specs.Tree.{simple as simpleOf}
 use Rattle.geometry.specs.Means.{block_of}
 use Rattle.rule.specs.Rule.{Candidates, left_whole}
-use Rattle.tree.specs.Builds.{sons_nodes, sons_listings}
 use Rattle.tree.proofs.Sequence.{grown_divided}
-use Rattle.tree.proofs.Sons.{left_whole_lem, is_divided, grown_leaf, grown_none, ready_down, spreadable, nw_of_tree, ne_of_tree, sw_of_tree, se_of_tree, no_son, sons_grown, sons_stop, son_ready, son_then}
+use Rattle.tree.proofs.Sons.{left_whole_lem, is_divided, grown_leaf, grown_none, ready_down, spreadable, no_son, son_at, son_ready, son_then, sons_grown, no_more}
 use Rattle.tree.proofs.+build_block_build_sons.Goals as goal
 
 -- the part of the slots that is tested is the block's candidates
@@ -61,64 +61,25 @@ build_block-returns t c =
 pub build_sons-spread-s-requires : goal.build_sons-spread-s-requires
 build_sons-spread-s-requires t c = spreadable c.requires
 
--- Of the sons: what stands after the spread is `o`, after each son it has that son's name. Each leads on to the next.
+pub build_sons-loop-son-init : goal.build_sons-loop-son-init
+build_sons-loop-son-init t c = no_son c.requires c.spread-s.auto.slots c.requires.node c.requires.listing
 
 pub build_sons-build_block-requires : goal.build_sons-build_block-requires
 build_sons-build_block-requires t c =
-    let o = no_son c.requires c.spread-s.ensures c.args.nodes.now c.args.listings.now c.spread-s.auto.slots c.requires.node c.requires.listing in
-    (omega (arith, c.decreases), son_ready _ _ _ _ o refl _ _ c.north_west.ensures (nw_of_tree c.requires.of_tree) c.spread-s.ensures.nw)
+    let son = son_at c.requires c.spread-s.ensures _ _ _ _ c.north_west.ensures c.north_east.ensures c.south_west.ensures c.south_east.ensures c.loop-son.son-index c.loop-son-test.true _ in
+    (omega (arith, c.decreases), son_ready c.requires c.loop-son.invariant refl son)
 
-pub build_sons-returns-in_err-p : goal.build_sons-returns-in_err-p
-unfolding sons_nodes sons_listings
-build_sons-returns-in_err-p t c =
-    let o = no_son c.requires c.spread-s.ensures c.args.nodes.now c.args.listings.now c.spread-s.auto.slots c.requires.node c.requires.listing in
-    let nw = son_then _ _ _ _ o refl _ _ c.north_west.ensures (nw_of_tree c.requires.of_tree) c.spread-s.ensures.nw c.build_block.ensures c.build_block.auto.slots c.build_block.auto.nodes c.build_block.auto.listings in
-    rw c.from_residual.ensures (sons_grown _ _ _ _ (sons_stop _ _ _ _ (sons_stop _ _ _ _ (sons_stop _ _ _ _ nw c.in_err-p.was _) refl _) refl _))
+pub build_sons-returns-in_err-next : goal.build_sons-returns-in_err-next
+build_sons-returns-in_err-next t c =
+    let son = son_at c.requires c.spread-s.ensures _ _ _ _ c.north_west.ensures c.north_east.ensures c.south_west.ensures c.south_east.ensures c.loop-son.son-index c.loop-son-test.true _ in
+    let so = son_then c.requires c.loop-son.invariant refl son c.build_block.ensures c.build_block.auto.slots c.build_block.auto.nodes c.build_block.auto.listings in
+    rw c.from_residual.ensures (sons_grown c.requires c.spread-s.ensures refl (no_more c.requires (3 - c.loop-son.son-index) (omega (arith, c.loop-son-test.true)) (rw c.in_err-next.was at so)))
 
-pub build_sons-build_block-requires-2 : goal.build_sons-build_block-requires-2
-build_sons-build_block-requires-2 t c =
-    let o = no_son c.requires c.spread-s.ensures c.args.nodes.now c.args.listings.now c.spread-s.auto.slots c.requires.node c.requires.listing in
-    let nw = son_then _ _ _ _ o refl _ _ c.north_west.ensures (nw_of_tree c.requires.of_tree) c.spread-s.ensures.nw c.build_block.ensures c.build_block.auto.slots c.build_block.auto.nodes c.build_block.auto.listings in
-    (omega (arith, c.decreases), son_ready _ _ _ _ nw c.in_ok-p.was _ _ c.north_east.ensures (ne_of_tree c.requires.of_tree) c.spread-s.ensures.ne)
-
-pub build_sons-returns-in_err-q : goal.build_sons-returns-in_err-q
-unfolding sons_nodes sons_listings
-build_sons-returns-in_err-q t c =
-    let o = no_son c.requires c.spread-s.ensures c.args.nodes.now c.args.listings.now c.spread-s.auto.slots c.requires.node c.requires.listing in
-    let nw = son_then _ _ _ _ o refl _ _ c.north_west.ensures (nw_of_tree c.requires.of_tree) c.spread-s.ensures.nw c.build_block.ensures c.build_block.auto.slots c.build_block.auto.nodes c.build_block.auto.listings in
-    let ne = son_then _ _ _ _ nw c.in_ok-p.was _ _ c.north_east.ensures (ne_of_tree c.requires.of_tree) c.spread-s.ensures.ne c.build_block-2.ensures c.build_block-2.auto.slots c.build_block-2.auto.nodes c.build_block-2.auto.listings in
-    rw c.from_residual-in_err-q.ensures (sons_grown _ _ _ _ (sons_stop _ _ _ _ (sons_stop _ _ _ _ ne c.in_err-q.was _) refl _))
-
-pub build_sons-build_block-requires-3 : goal.build_sons-build_block-requires-3
-build_sons-build_block-requires-3 t c =
-    let o = no_son c.requires c.spread-s.ensures c.args.nodes.now c.args.listings.now c.spread-s.auto.slots c.requires.node c.requires.listing in
-    let nw = son_then _ _ _ _ o refl _ _ c.north_west.ensures (nw_of_tree c.requires.of_tree) c.spread-s.ensures.nw c.build_block.ensures c.build_block.auto.slots c.build_block.auto.nodes c.build_block.auto.listings in
-    let ne = son_then _ _ _ _ nw c.in_ok-p.was _ _ c.north_east.ensures (ne_of_tree c.requires.of_tree) c.spread-s.ensures.ne c.build_block-2.ensures c.build_block-2.auto.slots c.build_block-2.auto.nodes c.build_block-2.auto.listings in
-    (omega (arith, c.decreases), son_ready _ _ _ _ ne c.in_ok-q.was _ _ c.south_west.ensures (sw_of_tree c.requires.of_tree) c.spread-s.ensures.sw)
-
-pub build_sons-returns-in_err-r : goal.build_sons-returns-in_err-r
-unfolding sons_nodes sons_listings
-build_sons-returns-in_err-r t c =
-    let o = no_son c.requires c.spread-s.ensures c.args.nodes.now c.args.listings.now c.spread-s.auto.slots c.requires.node c.requires.listing in
-    let nw = son_then _ _ _ _ o refl _ _ c.north_west.ensures (nw_of_tree c.requires.of_tree) c.spread-s.ensures.nw c.build_block.ensures c.build_block.auto.slots c.build_block.auto.nodes c.build_block.auto.listings in
-    let ne = son_then _ _ _ _ nw c.in_ok-p.was _ _ c.north_east.ensures (ne_of_tree c.requires.of_tree) c.spread-s.ensures.ne c.build_block-2.ensures c.build_block-2.auto.slots c.build_block-2.auto.nodes c.build_block-2.auto.listings in
-    let sw = son_then _ _ _ _ ne c.in_ok-q.was _ _ c.south_west.ensures (sw_of_tree c.requires.of_tree) c.spread-s.ensures.sw c.build_block-3.ensures c.build_block-3.auto.slots c.build_block-3.auto.nodes c.build_block-3.auto.listings in
-    rw c.from_residual-in_err-r.ensures (sons_grown _ _ _ _ (sons_stop _ _ _ _ sw c.in_err-r.was _))
-
-pub build_sons-build_block-requires-4 : goal.build_sons-build_block-requires-4
-build_sons-build_block-requires-4 t c =
-    let o = no_son c.requires c.spread-s.ensures c.args.nodes.now c.args.listings.now c.spread-s.auto.slots c.requires.node c.requires.listing in
-    let nw = son_then _ _ _ _ o refl _ _ c.north_west.ensures (nw_of_tree c.requires.of_tree) c.spread-s.ensures.nw c.build_block.ensures c.build_block.auto.slots c.build_block.auto.nodes c.build_block.auto.listings in
-    let ne = son_then _ _ _ _ nw c.in_ok-p.was _ _ c.north_east.ensures (ne_of_tree c.requires.of_tree) c.spread-s.ensures.ne c.build_block-2.ensures c.build_block-2.auto.slots c.build_block-2.auto.nodes c.build_block-2.auto.listings in
-    let sw = son_then _ _ _ _ ne c.in_ok-q.was _ _ c.south_west.ensures (sw_of_tree c.requires.of_tree) c.spread-s.ensures.sw c.build_block-3.ensures c.build_block-3.auto.slots c.build_block-3.auto.nodes c.build_block-3.auto.listings in
-    (omega (arith, c.decreases), son_ready _ _ _ _ sw c.in_ok-r.was _ _ c.south_east.ensures (se_of_tree c.requires.of_tree) c.spread-s.ensures.se)
+pub build_sons-loop-son-preserved : goal.build_sons-loop-son-preserved
+build_sons-loop-son-preserved t c =
+    let son = son_at c.requires c.spread-s.ensures _ _ _ _ c.north_west.ensures c.north_east.ensures c.south_west.ensures c.south_east.ensures c.loop-son.son-index c.loop-son-test.true _ in
+    let so = son_then c.requires c.loop-son.invariant refl son c.build_block.ensures c.build_block.auto.slots c.build_block.auto.nodes c.build_block.auto.listings in
+    rw add-one (rw c.in_ok-next.was at so)
 
 pub build_sons-returns : goal.build_sons-returns
-unfolding sons_nodes sons_listings
-build_sons-returns t c =
-    let o = no_son c.requires c.spread-s.ensures c.args.nodes.now c.args.listings.now c.spread-s.auto.slots c.requires.node c.requires.listing in
-    let nw = son_then _ _ _ _ o refl _ _ c.north_west.ensures (nw_of_tree c.requires.of_tree) c.spread-s.ensures.nw c.build_block.ensures c.build_block.auto.slots c.build_block.auto.nodes c.build_block.auto.listings in
-    let ne = son_then _ _ _ _ nw c.in_ok-p.was _ _ c.north_east.ensures (ne_of_tree c.requires.of_tree) c.spread-s.ensures.ne c.build_block-2.ensures c.build_block-2.auto.slots c.build_block-2.auto.nodes c.build_block-2.auto.listings in
-    let sw = son_then _ _ _ _ ne c.in_ok-q.was _ _ c.south_west.ensures (sw_of_tree c.requires.of_tree) c.spread-s.ensures.sw c.build_block-3.ensures c.build_block-3.auto.slots c.build_block-3.auto.nodes c.build_block-3.auto.listings in
-    let se = son_then _ _ _ _ sw c.in_ok-r.was _ _ c.south_east.ensures (se_of_tree c.requires.of_tree) c.spread-s.ensures.se c.build_block-4.ensures c.build_block-4.auto.slots c.build_block-4.auto.nodes c.build_block-4.auto.listings in
-    sons_grown _ _ _ _ se
+build_sons-returns t c = sons_grown c.requires c.spread-s.ensures (omega arith) c.loop-son.invariant
