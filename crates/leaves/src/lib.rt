@@ -28,6 +28,8 @@ const DIVIDED: usize = 65535;
 // A leaf of so many lines needs no test.
 const ALONE: usize = 1;
 
+// stays: lines and slots as parameters: with a struct each clause would name its fields, and each part of the slots would be a new literal.
+
 // l conflicts with the line of one of the slots.
 pub fn conflicts_with(lines: &[u16], slots: &[u16], l: Line) -> bool
     requires { Good lines.now slots.now × (same_point l.a l.b ≡ false) × LineEnds (line_of l) }
@@ -111,6 +113,7 @@ pub fn mean(sum: usize, count: usize) -> u16
     requires { (0 < count) × (sum ≤ 65535 * count) }
     ensures { result ≡ sum / count }
 {
+    // stays: the mean of 16-bit numbers fits, and try_from would bring an error that cannot happen.
     (sum / count) as u16
 }
 

@@ -11,7 +11,12 @@ use geometry::{Block, north_east, north_west, south_east, south_west, whole_map}
 use rule::left_whole;
 use tables::{Place, copy, live_slots};
 
+// What the node table has for a divided block.
+const DIVIDED: u16 = 65535;
+
 // Each build gives the next free places, or None where one of the tables is too short.
+
+// stays: slots, nodes and listings as parameters: a struct of three &mut would be lent anew at each call, with starred clauses for what it leaves.
 
 // A leaf, where the node table has room for its node.
 pub fn put_leaf(slots: &[u16], nodes: &mut [u16], listings: &mut [u16], at: Place) -> Option<Place>
@@ -28,6 +33,7 @@ pub fn put_leaf(slots: &[u16], nodes: &mut [u16], listings: &mut [u16], at: Plac
         node: node + 1,
         listing: listing + n,
     };
+    // stays: a leaf has 1,024 slots at most, and try_from would bring an error that cannot happen.
     nodes[node] = n as u16;
     copy(slots, &mut listings[listing..]);
     Some(next)
@@ -61,7 +67,7 @@ pub fn build_block(
     if left_whole(lines, &slots[from..to], k, level) {
         return put_leaf(&slots[from..to], nodes, listings, at);
     }
-    nodes[node] = 65535;
+    nodes[node] = DIVIDED;
     let next = Place {
         node: node + 1,
         listing: at.listing,
