@@ -28,7 +28,7 @@ const DIVIDED: usize = 65535;
 // A leaf of so many lines needs no test.
 const ALONE: usize = 1;
 
-// stays: lines and slots as parameters: with a struct each clause would name its fields, and each part of the slots would be a new literal.
+// stays: lines and slots as parameters: tried as a struct, where each ensures says leaf.entry.lines.now, and each part of the slots is a literal.
 
 // l conflicts with the line of one of the slots.
 pub fn conflicts_with(lines: &[u16], slots: &[u16], l: Line) -> bool

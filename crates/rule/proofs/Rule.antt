@@ -211,6 +211,9 @@ pub record First (lines : List ℕ) (k : Block) (slots : List ℕ) (x : ℕ) (re
   pub candidates : Candidates lines k slots
   pub is : IsLine lines x r
 
+pub first_of : {lines : List ℕ} {k : Block} {slots : List ℕ} {x : ℕ} {rest : List ℕ} {r : code.Line} → slots ≡ x ∷ rest → Candidates lines k slots → IsLine lines x r → First lines k slots x rest r
+first_of e c i = record { whole = e; candidates = c; is = i }
+
 module _ {lines : List ℕ} {k : Block} {slots : List ℕ} {x : ℕ} {rest : List ℕ} {r : code.Line} (f : First lines k slots x rest r) where
   all_is : simple (line_at lines x ∷ map (line_at lines) rest) k ≡ simple (map (line_at lines) slots) k
   all_is = ap (λ (z : List ℕ). simple (map (line_at lines) z) k) (sym f.whole)

@@ -22,7 +22,7 @@ pub fn hangs_on(k: Block, l: Line, v: Point) -> bool
     same_point(l.b, v) & !inside(k, l.a)
 }
 
-// stays: lines, slots and k as parameters: a struct of them would be made anew for the slots after the first, and clauses would name its fields.
+// stays: lines, slots and k as parameters: of a struct each ensures would say asked.entry.lines.now, and simple would make one anew for the others.
 pub fn all_hang_on(lines: &[u16], slots: &[u16], k: Block, v: Point) -> bool
     requires { Candidates lines.now (block_of k) slots.now }
     ensures { result ≡ every (hangs_at lines.now (block_of k) v) slots.now }
