@@ -1,7 +1,7 @@
 // The candidates of a block, spread to its four sons.
 #![tactic(auto)]
 
-ghost use Rattle.std.specs.Prelude.{◌≡◌, ◌≤◌};
+ghost use Rattle.std.specs.Prelude.{◌≡◌};
 ghost use Rattle.geometry.specs.Means.{block_of};
 ghost use Rattle.candidates.specs.Spread.{Spreadable, Spread};
 

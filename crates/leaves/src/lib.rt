@@ -1,7 +1,7 @@
 // Conflicts between live lines, tested only between lines of one leaf: lines that share a point share a leaf.
 #![tactic(auto)]
 
-ghost use Rattle.std.specs.Prelude.{◌≡◌, false, not, ◌+◌, ◌*◌, ◌/◌, ◌≤◌, ◌<◌, length};
+ghost use Rattle.std.specs.Prelude.{◌≡◌, false, not, ◌*◌, ◌/◌, ◌≤◌, ◌<◌, length};
 ghost use Rattle.algebra.specs.Words.{every, those};
 ghost use Rattle.definitions.specs.Shape.{same_point, is_end};
 ghost use Rattle.definitions.specs.Tables.{none_conflict};

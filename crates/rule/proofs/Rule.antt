@@ -22,7 +22,7 @@ use Rattle.meaning.specs.Rules.{of_ends, in_ends}
 use Rattle.geometry.specs.declared.Line as code
 use Rattle.geometry.specs.Means.{line_of}
 use Rattle.tables.specs.Rows.{IsLine}
-use Rattle.rule.specs.Rule.{hangs, hangs_at, left_whole, Candidate, Candidates}
+use Rattle.rule.specs.Rule.{hangs, hangs_at, Candidate, Candidates}
 
 -- ---- a line that hangs on v
 module _ (k : Block) (v : Point) (l : Line) where
@@ -285,7 +285,3 @@ module _ {lines : List ℕ} {k : Block} {slots : List ℕ} {x : ℕ} {rest : Lis
       go true ha b hb = all r.a ∙ first_inside ha h
       go false ha true hb = all r.b ∙ second_inside ha hb
       go false ha false hb = alone_inside ha hb none
-
-pub whole_above : (level : ℕ) → (level ≡ 0 → ⊥) → (b : Bool) → left_whole level b ≡ b
-whole_above zero f b = absurd (f refl)
-whole_above (suc n) f b = refl
