@@ -208,15 +208,15 @@ pub fn conflicts_in_leaves(lines: &[u16], nodes: &[u16], listings: &[u16], used:
     requires { TreeUsed lines.now nodes.now listings.now used }
     ensures { result ≡ not (none_conflict lines.now) }
 {
-    let mut at: usize = 0;
+    let mut rest = listings;
     for &node in &nodes[..used] {
         let n = usize::from(node);
         if n != DIVIDED {
-            let e = at + n;
-            if ALONE < n && leaf_conflicts(lines, &listings[at..e]) {
+            let (leaf, others) = rest.split_at(n);
+            if ALONE < n && leaf_conflicts(lines, leaf) {
                 return true;
             }
-            at = e;
+            rest = others;
         }
     }
     false

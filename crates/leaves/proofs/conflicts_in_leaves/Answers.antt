@@ -12,27 +12,27 @@ slice_bounds-node-items-end c = used_long c.requires (omega arith)
 pub loop-node-init : goal.loop-node-init
 loop-node-init c = ahead_start c.requires
 
-pub slice_bounds-leaf_conflicts-end : goal.slice_bounds-leaf_conflicts-end
-slice_bounds-leaf_conflicts-end c = (leaf_here c.loop-node.invariant (omega arith) c.loop-node-test.true c.from-n.ensures c.if-n-ne-DIVIDED.true).fits
+pub split_at-requires : goal.split_at-requires
+split_at-requires c = (leaf_here c.loop-node.invariant (omega arith) c.loop-node-test.true c.from-n.ensures c.if-n-ne-DIVIDED.true).fits
 
 pub leaf_conflicts-requires : goal.leaf_conflicts-requires
-leaf_conflicts-requires c = (leaf_here c.loop-node.invariant (omega arith) c.loop-node-test.true c.from-n.ensures c.if-n-ne-DIVIDED.true).good
+leaf_conflicts-requires c = rw c.split_at.ensures.front (leaf_here c.loop-node.invariant (omega arith) c.loop-node-test.true c.from-n.ensures c.if-n-ne-DIVIDED.true).good
 
 pub returns-then-leaf_conflicts : goal.returns-then-leaf_conflicts
 returns-then-leaf_conflicts c =
     let l = leaf_here c.loop-node.invariant (omega arith) c.loop-node-test.true c.from-n.ensures c.if-n-ne-DIVIDED.true in
-    sym (ap not (l.stops (not-true _ (sym c.if-leaf_conflicts.ensures))))
+    sym (ap not (l.stops (not-true _ (rw c.split_at.ensures.front at (sym c.if-leaf_conflicts.ensures)))))
 
 pub loop-node-preserved : goal.loop-node-preserved
 loop-node-preserved c =
     let inv = c.loop-node.invariant in
     let here = leaf_here inv (omega arith) c.loop-node-test.true c.from-n.ensures in
     elim c.if-n-ne-DIVIDED.branch [
-      | then-n-ne-DIVIDED+else-n-gt-ALONE v ↦ let l = here v.if-n-ne-DIVIDED.true in rw v.at-is (l.passed (elim v.else-n-gt-ALONE.branch [
-        | else-n-gt-ALONE-via-then-n-gt-ALONE+else-leaf_conflicts u ↦ not-false _ (sym u.if-leaf_conflicts.ensures)
+      | then-n-ne-DIVIDED+else-n-gt-ALONE v ↦ let l = here v.if-n-ne-DIVIDED.true in rw v.rest-is (l.passed (elim v.else-n-gt-ALONE.branch [
+        | else-n-gt-ALONE-via-then-n-gt-ALONE+else-leaf_conflicts u ↦ not-false _ (rw v.split_at.ensures.front at (sym u.if-leaf_conflicts.ensures))
         | else-n-gt-ALONE-via-else-n-gt-ALONE u ↦ l.few u.if-n-gt-ALONE.false
-      ]))
-      | else-n-ne-DIVIDED v ↦ rw v.at-is (ahead_parted inv (omega arith) c.loop-node-test.true c.from-n.ensures v.if-n-ne-DIVIDED.false)
+      ]) v.split_at.ensures.back)
+      | else-n-ne-DIVIDED v ↦ rw v.rest-is (ahead_parted inv (omega arith) c.loop-node-test.true c.from-n.ensures v.if-n-ne-DIVIDED.false)
     ]
 
 pub returns : goal.returns
