@@ -2,6 +2,7 @@
 use Rattle.std.specs.Prelude.{Ok, Err}
 use mathlib.Core.Path.{◌≡◌, refl, sym, ap, ◌∙◌, subst}
 use mathlib.Core.Bool.{Bool, true, false}
+use Rattle.std.specs.Prelude.{Some}
 use mathlib.Core.List.{List, Memᴰ}
 use Prim.Native.Nat.{ℕ, ◌+◌, ◌*◌, ◌≤◌, ◌<◌}
 use native.Mathlib.Omega.{arith}
@@ -15,7 +16,6 @@ use Rattle.definitions.specs.Calls.{all_on_grid, no_length, with_slot, placed, r
 use Rattle.meaning.specs.Changes.{slots_placed}
 use Rattle.meaning.specs.Sound.{sound→}
 use Rattle.tables.specs.declared.Row.{Row}
-use Rattle.tables.specs.declared.Slot.TheVariants.{At}
 use Rattle.tables.specs.Rows.{OnMap, row_at, row_of, entries_of, placed_is}
 use Rattle.tables.specs.Slots.{first_slot_of, first_at}
 use Rattle.tables.specs.Sound.{FreeSlot, free_found, picked, on_map, sound_at, Tested}
@@ -28,7 +28,7 @@ module _ {rule : Rule} {lines nodes listings : List ℕ} (w : Passed rule lines 
   slots_ok = (sound→ rule (tables lines nodes listings) w.ok).slots
 
   -- a slot that conflicts is one of 1,024, and live: its line is on the grid
-  pub conflict_there : (g : Given) {s : ℕ} → first_slot_of (conflicting lines g) ≡ At s → OnMap lines s × (s ≤ 1023)
+  pub conflict_there : (g : Given) {s : ℕ} → first_slot_of (conflicting lines g) ≡ Some s → OnMap lines s × (s ≤ 1023)
   unfolding conflicting
   conflict_there g {s} e =
       let f = first_at (conflicting lines g) e in

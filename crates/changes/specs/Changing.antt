@@ -1,5 +1,5 @@
 -- What the steps of insert and delete may count on, and what they leave.
-use Rattle.std.specs.Prelude.{◌≡◌, Bool, true, false, List, [], ℕ, ◌+◌, ◌*◌, ◌/◌, ◌≤◌, length}
+use Rattle.std.specs.Prelude.{◌≡◌, Bool, true, false, List, [], ℕ, ◌+◌, ◌*◌, ◌/◌, ◌≤◌, length, Some}
 use Rattle.std.proofs.Common.{sym, subst}
 use Rattle.algebra.specs.Words.{every}
 use Rattle.definitions.specs.declared.Given.{Given}
@@ -7,7 +7,6 @@ use Rattle.definitions.specs.Tree.{Rule}
 use Rattle.definitions.specs.Tables.{Tables, lengths_fit, slot_sound, slots_of, is_live}
 use Rattle.definitions.specs.Calls.{rebuilt, room_for, all_on_grid, no_length, conflicting, free_slots, known, with_slot}
 use Rattle.tables.specs.declared.Row.{Row}
-use Rattle.tables.specs.declared.Slot.TheVariants.{At}
 use Rattle.tables.specs.Rows.{entries_of}
 use Rattle.tables.specs.Slots.{first_slot_of}
 use Rattle.tables.specs.Sound.{known_slot}
@@ -37,7 +36,7 @@ pub record Placing (rule : Rule) (lines nodes listings : List ℕ) (slot : ℕ) 
   pub grid : all_on_grid g ≡ true
   pub long : no_length g ≡ false
   pub clear : conflicting lines g ≡ []
-  pub free : first_slot_of (free_slots lines) ≡ At slot
+  pub free : first_slot_of (free_slots lines) ≡ Some slot
 
 -- ---- delete
 

@@ -11,7 +11,7 @@ ghost use Rattle.changes.specs.Changing.{Room, Putting, Put, Placing, Taking};
 use definitions::{Answer, Given, Refusal};
 use kinds::conflict_detail;
 use tables::{
-    Row, Slot, all_on_grid, clear, copy, emptied, first_conflict, free_slot, handle_of, no_length,
+    Row, all_on_grid, clear, copy, emptied, first_conflict, free_slot, handle_of, no_length,
     put_row, row_at, row_of,
 };
 use tree::build;
@@ -97,10 +97,10 @@ pub fn insert_sound(lines: &mut [u16], nodes: &mut [u16], listings: &mut [u16], 
     if no_length(g) {
         return Err(Refusal::NoLength);
     }
-    if let Slot::At(s) = first_conflict(lines, g) {
+    if let Some(s) = first_conflict(lines, g) {
         return Err(Refusal::Conflict(conflict_detail(lines, s, g)));
     }
-    let Slot::At(slot) = free_slot(lines) else {
+    let Some(slot) = free_slot(lines) else {
         return Err(Refusal::NoSlot);
     };
     place(lines, nodes, listings, slot, g)

@@ -1,15 +1,13 @@
 -- A slot's eight entries as a part of the line table: read, and put back.
-use mathlib.Core.Path.{◌≡◌, sym, ap₂, ◌∙◌}
+use mathlib.Core.Path.{◌≡◌, sym, ap, ◌∙◌}
 use mathlib.Core.List.{List, ◌++◌, append_assoc}
 use Prim.Native.Nat.{ℕ, ◌+◌, ◌-◌, ◌*◌, ◌≤◌, ◌<◌}
 use native.Mathlib.Omega.{arith}
-use lib.ListN.{length, take, drop, get_or, length-take, length-drop}
-use lib.Seq.{sets, get_or-take, get_or-drop}
+use lib.ListN.{length, take, drop, get_or}
+use lib.Seq.{get_or-take, get_or-drop}
 use borrow.Rule.Slice.PartMut.{put_mid, Post-is}
-use Rattle.algebra.specs.Words.{over}
 use Rattle.definitions.specs.Calls.{with_slot}
 use Rattle.tables.specs.Rows.{row_at}
-use Rattle.algebra.specs.Lists.{over_all}
 
 -- the part of the slot at i
 abbrev pub part_at : List ℕ → ℕ → List ℕ
@@ -32,15 +30,8 @@ row_is lines s =
       right = part_entry lines (8 * s) 7 (omega arith) j;
     }
 
-pub part_length : (lines : List ℕ) (i : ℕ) → i + 8 ≤ length lines → length (part_at lines i) ≡ 8
-part_length lines i h = simp (length-take, length-drop) (omega arith)
-
-pub part_put : (lines : List ℕ) (s : ℕ) (new : List ℕ) → 8 * s + 8 ≤ length lines → length new ≡ 8
-    → put_mid (8 * s) (8 * s + 8 - 8 * s) lines (sets (part_at lines (8 * s)) 0 new) ≡ with_slot lines s new
-unfolding with_slot over
-part_put lines s new h e =
-    ap₂ (λ (z w : List ℕ). take (8 * s) lines ++ (z ++ w)) (over_all new (part_at lines (8 * s)) same) (Post-is (8 * s) (8 * s + 8) lines (omega arith))
-    ∙ sym (append_assoc (take (8 * s) lines) new (drop (8 * s + 8) lines))
-  where
-    same : length new ≡ length (part_at lines (8 * s))
-    same = omega (arith, part_length lines (8 * s) h)
+-- put back
+pub part_put : (lines : List ℕ) (s : ℕ) (new : List ℕ) → 8 * s + 8 ≤ length lines → put_mid (8 * s) (8 * s + 8 - 8 * s) lines new ≡ with_slot lines s new
+unfolding with_slot
+part_put lines s new h =
+    ap (λ (z : List ℕ). take (8 * s) lines ++ (new ++ z)) (Post-is (8 * s) (8 * s + 8) lines (omega arith)) ∙ sym (append_assoc (take (8 * s) lines) new (drop (8 * s + 8) lines))

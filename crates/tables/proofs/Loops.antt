@@ -1,38 +1,46 @@
--- The turns and the ends of the loops that compare and fill.
-use mathlib.Core.Path.{◌≡◌, refl, ap, ◌∙◌}
+-- Two tables compared, and a test of all numbers below one.
+use mathlib.Core.Path.{◌≡◌, refl, sym, ◌∙◌, subst}
 use mathlib.Core.Bool.{Bool, true, false, ◌&&◌}
-use mathlib.Core.List.{List, [], ◌∷◌, ◌++◌, append-nil}
-use Prim.Native.Nat.{ℕ, zero, suc, ◌+◌, ◌≤◌, ◌<◌}
-use native.Mathlib.Numerals.{add-one}
+use mathlib.Core.List.{List, [], ◌∷◌}
+use Prim.Native.Nat.{ℕ, ◌<◌}
 use native.Mathlib.Omega.{arith}
+use native.Mathlib.Nat.{zero-add}
 use lib.Dec.{eqb}
-use lib.ListN.{length, take, drop, get_or, replicate, drop_of_length-le}
-use Rattle.algebra.specs.Words.{same_list}
+use Rattle.std.specs.Bool.{MatchBool}
+use Rattle.std.specs.Cmp.Lexicographic.{pointwise}
+use Rattle.std.specs.List.{AllWithin, HoldsAt, range_with_len}
+use Rattle.std.proofs.lemmas.List.FromFn.{length-range_with_len, get_or-range_with_len}
+use lib.ListN.{length, get_or}
+use Rattle.algebra.specs.Lists.{every→, every←, in_up_from, to_up_from}
+use Rattle.algebra.specs.Tests.{false_by, no_path}
+use Rattle.algebra.specs.Words.{every, up_from, same_list}
 
--- ---- two tables, compared up to i
-same_suc : (i : ℕ) (a b : List ℕ) → i < length a → i < length b
-    → same_list (take (suc i) a) (take (suc i) b) ≡ same_list (take i a) (take i b) && eqb (get_or a i 0) (get_or b i 0)
+-- ---- two tables, compared entry by entry
+pub same_pointwise : (a b : List ℕ) → pointwise eqb a b ≡ same_list a b
 unfolding same_list
-same_suc i [] b h k = absurd (omega arith)
-same_suc i (x ∷ a) [] h k = absurd (omega arith)
-same_suc zero (x ∷ a) (y ∷ b) h k = go (eqb x y)
+same_pointwise [] [] = refl
+same_pointwise [] (y ∷ b) = refl
+same_pointwise (x ∷ a) [] = refl
+same_pointwise (x ∷ a) (y ∷ b) = go (eqb x y) (same_pointwise a b)
   where
-    go : (t : Bool) → elim t [ true ↦ true | false ↦ false ] ≡ t
-    go true = refl
-    go false = refl
-same_suc (suc i) (x ∷ a) (y ∷ b) h k = go (eqb x y) _ _ _ (same_suc i a b (omega arith) (omega arith))
-  where
-    go : (t p q r : Bool) → p ≡ q && r → elim t [ true ↦ p | false ↦ false ] ≡ elim t [ true ↦ q | false ↦ false ] && r
-    go true p q r e = e
-    go false p q r e = refl
+    go : (t : Bool) {p q : Bool} → p ≡ q → t && p ≡ elim t [ true ↦ q | false ↦ false ]
+    go true e = e
+    go false e = refl
 
-pub same_turn : (a b : List ℕ) (i : ℕ) → i < length a → i < length b
-    → same_list (take (i + 1) a) (take (i + 1) b) ≡ same_list (take i a) (take i b) && eqb (get_or a i 0) (get_or b i 0)
-same_turn a b i h k = ap (λ (n : ℕ). same_list (take n a) (take n b)) (add-one i) ∙ same_suc i a b h k
+-- ---- a test of the numbers below n, by `all` over them
+module _ (p : ℕ → Bool) (n : ℕ) where
+  abbrev below : List ℕ
+  below = range_with_len 0 n
 
--- ---- a table filled to its end
-pub filled : (d : List ℕ) (i v : ℕ) → length d ≤ i → i ≤ length d → replicate i v ++ drop i d ≡ replicate (length d) v
-filled d i v h k = ap (λ (z : List ℕ). replicate i v ++ z) (drop_of_length-le d h) ∙ append-nil (replicate i v) ∙ ap (λ (n : ℕ). replicate n v) all
-  where
-    all : i ≡ length d
-    all = omega arith
+  same_number : (k : ℕ) → k < n → get_or below k 0 ≡ k
+  same_number k h = get_or-range_with_len 0 n k 0 h ∙ zero-add k
+
+  pub every_from_all : (b : Bool)
+      → MatchBool b (AllWithin (λ s. p s ≡ true) below 0 (length below)) ((k : ℕ) × (k < length below) × HoldsAt (λ s. p s ≡ false) below k)
+      → b ≡ every p (up_from 0 n)
+  every_from_all true m =
+      sym (every← p (up_from 0 n) (λ s i. let h : s < n = omega (arith, in_up_from 0 n s i) in
+      subst (λ k. p k ≡ true) (same_number s h) (m s 0 (omega arith) (rw (length-range_with_len 0 n) h))))
+  every_from_all false (k, h, u) =
+      let low : k < n = rw (length-range_with_len 0 n) at h in
+      sym (false_by _ (λ e. no_path (sym (subst (λ i. p i ≡ false) (same_number k low) (u 0)) ∙ every→ p (up_from 0 n) e (to_up_from 0 n k (omega arith) (omega arith)))))

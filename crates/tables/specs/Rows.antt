@@ -1,5 +1,5 @@
 -- The row of a slot by value, and its eight entries.
-use Rattle.std.specs.Prelude.{◌≡◌, Bool, not, ◌&&◌, List, [], ◌∷◌, ℕ, ◌+◌, ◌*◌, ◌≤◌, ltb, length}
+use Rattle.std.specs.Prelude.{◌≡◌, Bool, not, ◌&&◌, List, [], ◌∷◌, ℕ, ◌+◌, ◌*◌, ◌/◌, ◌≤◌, ◌<◌, ltb, length}
 use Rattle.std.proofs.Math.Path.{ap}
 use Rattle.std.proofs.Common.{ap₂, ◌∙◌}
 use Rattle.std.proofs.Math.Dec.{eqb}
@@ -90,6 +90,13 @@ module _ (lines : List ℕ) (s : ℕ) {r : Row} (e : r ≡ row_at lines s) where
   pub freed_is : {w : Row} → w ≡ emptied_row r → with_slot lines s (entries_of w) ≡ freed lines s
   unfolding entries_of freed
   freed_is f = ap (λ (z : Row). with_slot lines s (entries_of z)) (f ∙ ap emptied_row e)
+
+-- ---- a test of rows, in code: it may be asked of the row of each slot, and what it answers there is what p says of the slot
+abbrev pub Asked : (Row → Type 0) → List ℕ → Type 0
+Asked may lines = (s : ℕ) (r : Row) → s < length lines / 8 → r ≡ row_at lines s → may r
+
+abbrev pub Tells : (Row → Bool → Type 0) → List ℕ → (ℕ → Bool) → Type 0
+Tells answers lines p = (s : ℕ) (r : Row) (b : Bool) → s < length lines / 8 → r ≡ row_at lines s → answers r b → b ≡ p s
 
 -- the slot is in the table, and its line on the grid
 pub record OnMap (lines : List ℕ) (s : ℕ) : Type 0 where

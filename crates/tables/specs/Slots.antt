@@ -1,5 +1,5 @@
 -- The lowest slot that passes a test, as a search by rising slots finds it; and how many live slots there are.
-use Rattle.std.specs.Prelude.{◌≡◌, refl, Bool, true, false, List, [], ◌∷◌, length}
+use Rattle.std.specs.Prelude.{◌≡◌, refl, Bool, true, false, List, [], ◌∷◌, length, Option, Some, None}
 use Rattle.std.proofs.Common.{sym, ◌∙◌, add-one}
 use Rattle.std.proofs.Math.Path.{ap}
 use Prim.Native.Nat.{ℕ, suc, ◌+◌, ◌-◌, ◌*◌, ◌/◌, ◌≤◌, ◌<◌}
@@ -7,15 +7,13 @@ use native.Mathlib.Omega.{arith}
 use Rattle.algebra.specs.Words.{those, up_from}
 use Rattle.algebra.specs.Lists.{those_yes, those_no, those_length, up_from_length}
 use Rattle.definitions.specs.Tables.{is_live, slots_of, live_slots}
-use Rattle.tables.specs.declared.Slot.{Slot}
-use Rattle.tables.specs.declared.Slot.TheVariants.{At, None}
 
-abbrev pub first_slot_of : List ℕ → Slot
+abbrev pub first_slot_of : List ℕ → Option ℕ
 first_slot_of [] = None
-first_slot_of (s ∷ more) = At s
+first_slot_of (s ∷ more) = Some s
 
 -- what the answer says of the list
-pub first_at : (l : List ℕ) {s : ℕ} → first_slot_of l ≡ At s → (more : List ℕ) × (l ≡ s ∷ more)
+pub first_at : (l : List ℕ) {s : ℕ} → first_slot_of l ≡ Some s → (more : List ℕ) × (l ≡ s ∷ more)
 first_at [] e = let z : ◌≡◌ {A = ℕ} 0 1 = cc in absurd (omega arith)
 first_at (u ∷ more) {s} e = let q : u ≡ s = cc in (more, ap (λ (n : ℕ). n ∷ more) q)
 
@@ -44,7 +42,7 @@ module _ (p : ℕ → Bool) (n : ℕ) where
   pub onward_next : (s : ℕ) → s < n → p s ≡ false → Onward s → Onward (s + 1)
   onward_next s h v e = e ∙ ap (those p) (next s h) ∙ those_no p s (up_from (s + 1) (n - (s + 1))) v
 
-  pub onward_found : (s : ℕ) → s < n → p s ≡ true → Onward s → first_slot_of (those p (up_from 0 n)) ≡ At s
+  pub onward_found : (s : ℕ) → s < n → p s ≡ true → Onward s → first_slot_of (those p (up_from 0 n)) ≡ Some s
   onward_found s h v e = ap first_slot_of (e ∙ ap (those p) (next s h) ∙ those_yes p s (up_from (s + 1) (n - (s + 1))) v)
 
   pub onward_none : (s : ℕ) → n ≤ s → Onward s → first_slot_of (those p (up_from 0 n)) ≡ None

@@ -1,5 +1,5 @@
 -- For callers: what a sound slot, a live slot, a line given, a free slot and a known handle give.
-use Rattle.std.specs.Prelude.{◌≡◌, refl, Bool, true, false, not, ◌&&◌, ◌||◌, ℕ, ◌+◌, ◌*◌, ◌/◌, ◌%◌, ◌≤◌, ◌<◌, leb, ltb, eqb, length}
+use Rattle.std.specs.Prelude.{◌≡◌, refl, Bool, true, false, not, ◌&&◌, ◌||◌, ℕ, ◌+◌, ◌*◌, ◌/◌, ◌%◌, ◌≤◌, ◌<◌, leb, ltb, eqb, length, Some}
 use Rattle.std.proofs.Common.{sym, ap, ap₂, ◌∙◌, arith}
 use mathlib.Core.List.{List, Memᴰ}
 use borrow.Author.Tests.{eqb-true, eq-eqb, ne_eqb, leb-true, ltb-true, not-true}
@@ -14,7 +14,6 @@ use Rattle.geometry.specs.declared.Line as code
 use Rattle.geometry.specs.Means.{line_of, line_from}
 use Rattle.geometry.specs.Slots.{conflict_slot}
 use Rattle.tables.specs.declared.Row.{Row}
-use Rattle.tables.specs.declared.Slot.TheVariants.{At}
 use Rattle.tables.specs.Rows.{row_at, entries_of, is_free, OnMap}
 use Rattle.tables.specs.Slots.{first_slot_of, first_at}
 
@@ -146,7 +145,7 @@ pub record FreeSlot (lines : List ℕ) (s : ℕ) : Type 0 where
   pub dead : is_live lines s ≡ false
   pub young : generation lines s < 65535
 
-pub free_found : (lines : List ℕ) {s : ℕ} → first_slot_of (free_slots lines) ≡ At s → FreeSlot lines s
+pub free_found : (lines : List ℕ) {s : ℕ} → first_slot_of (free_slots lines) ≡ Some s → FreeSlot lines s
 unfolding free_slots
 free_found lines {s} e =
     let f = first_at (free_slots lines) e in

@@ -1,8 +1,8 @@
 // The lent tables: their lengths, rows of the line table, comparing, copying and clearing.
 #![tactic(auto)]
 
-ghost use Rattle.std.specs.Prelude.{◌≡◌, true, false, ◌+◌, ◌*◌, ◌/◌, ◌%◌, ◌≤◌, eqb, length, replicate};
-ghost use Rattle.algebra.specs.Words.{every, same_list, over};
+ghost use Rattle.std.specs.Prelude.{◌≡◌, ℕ, Bool, true, false, ◌+◌, ◌*◌, ◌/◌, ◌%◌, ◌≤◌, eqb, length, replicate};
+ghost use Rattle.algebra.specs.Words.{every, those, same_list, over};
 ghost use Rattle.definitions.specs.Shape.{grid_point, same_point};
 ghost use Rattle.definitions.specs.Tables.{lengths_fit, slots_of, live_slots, live_sound, empty_sound, slot_sound};
 ghost use Rattle.definitions.specs.Lookup.{upper_label, lower_label};
@@ -10,7 +10,7 @@ ghost use Rattle.definitions.specs.Calls.{with_slot, all_on_grid, no_length, con
 ghost use Rattle.definitions.specs.Calls.{known as known_in};
 ghost use Rattle.geometry.specs.Means.{line_of};
 ghost use Rattle.geometry.specs.Range.{LineEnds};
-ghost use Rattle.tables.specs.Rows.{row_at, entries_of, row_of, emptied_row, is_free, OnMap, IsLine};
+ghost use Rattle.tables.specs.Rows.{Asked, Tells, row_at, entries_of, row_of, emptied_row, is_free, OnMap, IsLine};
 ghost use Rattle.tables.specs.Gathered.{Front};
 ghost use Rattle.tables.specs.Slots.{first_slot_of};
 ghost use Rattle.tables.specs.Sound.{hinders_at, Tested};
@@ -44,11 +44,11 @@ pub fn lengths_fit(lines: &[u16], nodes: &[u16], listings: &[u16]) -> bool
 pub fn wide(n: u16) -> usize
     ensures { result ≡ n }
 {
-    n as usize
+    usize::from(n)
 }
 
 // The 8 entries of a slot.
-#[derive(Clone, Copy)]
+#[derive(Clone, Copy, Default)]
 pub struct Row {
     pub live: u16,
     pub generation: u16,
@@ -85,15 +85,17 @@ pub fn put_row(lines: &mut [u16], slot: usize, row: Row)
 {
     let i = 8 * slot;
     let e = i + 8;
-    let r = &mut lines[i..e];
-    r[0] = row.live;
-    r[1] = row.generation;
-    r[2] = row.x1;
-    r[3] = row.y1;
-    r[4] = row.x2;
-    r[5] = row.y2;
-    r[6] = row.left;
-    r[7] = row.right;
+    let Row {
+        live,
+        generation,
+        x1,
+        y1,
+        x2,
+        y2,
+        left,
+        right,
+    } = row;
+    lines[i..e].copy_from_slice(&[live, generation, x1, y1, x2, y2, left, right]);
 }
 
 // The row of a line that insert is given.
@@ -117,14 +119,8 @@ pub fn emptied(row: Row) -> Row
     ensures { result ≡ emptied_row row }
 {
     Row {
-        live: 0,
         generation: row.generation,
-        x1: 0,
-        y1: 0,
-        x2: 0,
-        y2: 0,
-        left: 0,
-        right: 0,
+        ..Row::default()
     }
 }
 
@@ -197,7 +193,7 @@ pub fn line_at(lines: &[u16], slot: u16) -> Line
     requires { OnMap lines.now slot }
     ensures { IsLine lines.now slot result }
 {
-    line_of_row(row_at(lines, wide(slot)))
+    line_of_row(row_at(lines, usize::from(slot)))
 }
 
 // A handle is the slot x 65,536 + the generation.
@@ -217,7 +213,7 @@ pub fn handle_of(slot: usize, generation: u16) -> u32
     requires { slot ≤ 65535 }
     ensures { result ≡ slot * 65536 + generation }
 {
-    (slot as u32) * 65536 + (generation as u32)
+    (slot as u32) * 65536 + u32::from(generation)
 }
 
 // The handle is that of a live line.
@@ -235,15 +231,23 @@ pub fn known(lines: &[u16], handle: u32) -> bool
 pub fn slots_sound(lines: &[u16]) -> bool
     ensures { result ≡ every (slot_sound lines.now) (slots_of lines.now) }
 {
-    let n = lines.len() / 8;
-    let mut s: usize = 0;
-    while s < n {
-        if !slot_sound(row_at(lines, s)) {
-            return false;
+    (0..lines.len() / 8).all(|s| slot_sound(row_at(lines, s)))
+}
+
+// The slots whose row passes the test, rising, at the front of `to`, and how many.
+pub fn gather<F: Fn(Row) -> bool>(lines: &[u16], to: &mut [u16], test: F) -> usize
+    requires room { (length lines.now ≤ 8192) × (length lines.now ≤ 8 * length to.old) }
+    requires asked { Asked (F.pre test) lines.now }
+    ensures { (p : ℕ → Bool) → Tells (F.post test) lines.now p → Front (those p (slots_of lines.now)) to.old to.new result }
+{
+    let mut count = 0;
+    for s in 0..lines.len() / 8 {
+        if test(row_at(lines, s)) {
+            to[count] = s as u16;
+            count += 1;
         }
-        s += 1;
     }
-    true
+    count
 }
 
 // The live slots, rising, at the front of `to`, and how many.
@@ -251,24 +255,20 @@ pub fn live_slots(lines: &[u16], to: &mut [u16]) -> usize
     requires { (length lines.now ≤ 8192) × (length lines.now ≤ 8 * length to.old) }
     ensures { Front (live_slots lines.now) to.old to.new result }
 {
-    let n = lines.len() / 8;
-    let mut k: usize = 0;
-    let mut s: usize = 0;
-    while s < n {
-        if is_live(row_at(lines, s)) {
-            to[k] = s as u16;
-            k += 1;
-        }
-        s += 1;
-    }
-    k
+    gather(lines, to, is_live)
 }
 
-// A slot, or that there is none.
-#[derive(Clone, Copy)]
-pub enum Slot {
-    At(usize),
-    None,
+// The lowest slot whose row passes the test.
+fn first_slot<F: Fn(Row) -> bool>(lines: &[u16], test: F) -> Option<usize>
+    requires { Asked (F.pre test) lines.now }
+    ensures { (p : ℕ → Bool) → Tells (F.post test) lines.now p → result ≡ first_slot_of (those p (slots_of lines.now)) }
+{
+    for s in 0..lines.len() / 8 {
+        if test(row_at(lines, s)) {
+            return Some(s);
+        }
+    }
+    None
 }
 
 // Neither live nor retired.
@@ -279,18 +279,10 @@ pub fn is_free(row: Row) -> bool
 }
 
 // The lowest slot that insert may take.
-pub fn free_slot(lines: &[u16]) -> Slot
+pub fn free_slot(lines: &[u16]) -> Option<usize>
     ensures { result ≡ first_slot_of (free_slots lines.now) }
 {
-    let n = lines.len() / 8;
-    let mut s: usize = 0;
-    while s < n {
-        if is_free(row_at(lines, s)) {
-            return Slot::At(s);
-        }
-        s += 1;
-    }
-    Slot::None
+    first_slot(lines, is_free)
 }
 
 pub fn all_on_grid(g: Given) -> bool
@@ -317,34 +309,19 @@ pub fn hinders(row: Row, l: Line) -> bool
 }
 
 // The lowest live slot whose line conflicts with the line given.
-pub fn first_conflict(lines: &[u16], g: Given) -> Slot
+pub fn first_conflict(lines: &[u16], g: Given) -> Option<usize>
     requires { Tested lines.now g }
     ensures { result ≡ first_slot_of (conflicting lines.now g) }
 {
     let l = line_of(g.x1, g.y1, g.x2, g.y2);
-    let n = lines.len() / 8;
-    let mut s: usize = 0;
-    while s < n {
-        if hinders(row_at(lines, s), l) {
-            return Slot::At(s);
-        }
-        s += 1;
-    }
-    Slot::None
+    first_slot(lines, |row| hinders(row, l))
 }
 
-// One pass with no early exit: it is the faster where the tables are equal, as they are in a sound map.
 pub fn same(a: &[u16], b: &[u16]) -> bool
     requires { length a.now ≡ length b.now }
     ensures { result ≡ same_list a.now b.now }
 {
-    let mut same = true;
-    let mut i: usize = 0;
-    while i < a.len() {
-        same = same & (a[i] == b[i]);
-        i += 1;
-    }
-    same
+    a == b
 }
 
 // All of `from` at the front of `to`.
@@ -352,19 +329,13 @@ pub fn copy(from: &[u16], to: &mut [u16])
     requires { length from.now ≤ length to.old }
     ensures { to.new ≡ over 0 from.now to.old }
 {
-    let mut i: usize = 0;
-    while i < from.len() {
-        to[i] = from[i];
-        i += 1;
+    for (i, entry) in from.iter().enumerate() {
+        to[i] = *entry;
     }
 }
 
 pub fn clear(table: &mut [u16])
     ensures { table.new ≡ replicate (length table.old) 0 }
 {
-    let mut i: usize = 0;
-    while i < table.len() {
-        table[i] = 0;
-        i += 1;
-    }
+    table.fill(0);
 }

@@ -16,7 +16,7 @@ ghost use Rattle.window.specs.Means.{area_by, InMap, overlap_of, one_side_of, se
 
 use definitions::{Answer, Grid, Half, Point, Refusal, Window};
 use geometry::{Line, on_grid, to_half, turn};
-use tables::{Row, copy, is_live, line_of_row, row_at};
+use tables::{Row, copy, gather, is_live, line_of_row};
 
 // A closed rectangle by its four sides.
 #[derive(Clone, Copy)]
@@ -103,17 +103,7 @@ fn seen_slots(lines: &[u16], to: &mut [u16], k: Area) -> usize
     requires { (every (slot_sound lines.now) (slots_of lines.now) ≡ true) × (length lines.now ≤ 8192) × (length lines.now ≤ 8 * length to.old) × InMap (area_by k) }
     ensures { Front (slots_in lines.now (area_by k)) to.old to.new result }
 {
-    let n = lines.len() / 8;
-    let mut i: usize = 0;
-    let mut s: usize = 0;
-    while s < n {
-        if seen(row_at(lines, s), k) {
-            to[i] = s as u16;
-            i += 1;
-        }
-        s += 1;
-    }
-    i
+    gather(lines, to, |row| seen(row, k))
 }
 
 // The slots gathered in scratch, so that a list too short is left as it is.

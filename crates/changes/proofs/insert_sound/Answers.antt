@@ -21,12 +21,12 @@ first_conflict-requires c = tested c.requires (sym c.all_on_grid.ensures ∙ c.i
 
 pub conflict_detail-requires : goal.conflict_detail-requires
 conflict_detail-requires c =
-    let h = conflict_there c.requires c.args.g (sym c.first_conflict.ensures ∙ c.in-At.is) in
+    let h = conflict_there c.requires c.args.g (sym c.first_conflict.ensures ∙ c.in-Some.is) in
     (h.0, h.1, sym c.all_on_grid.ensures ∙ c.if-not-all_on_grid.false)
 
-pub returns-in-At : goal.returns-in-At
-returns-in-At c =
-    let f = first_at _ (sym c.first_conflict.ensures ∙ c.in-At.is) in
+pub returns-in-Some : goal.returns-in-Some
+returns-in-Some c =
+    let f = first_at _ (sym c.first_conflict.ensures ∙ c.in-Some.is) in
     ap (λ (d : ℕ). reply (Err (Conflict d)) (tables c.args.lines.now c.args.nodes.now c.args.listings.now)) c.conflict_detail.ensures
     ∙ sym (insert_5 base_rule _ _ c.requires.fit c.requires.ok (sym c.all_on_grid.ensures ∙ c.if-not-all_on_grid.false) (sym c.no_length.ensures ∙ c.if-no_length.false) _ f.0 f.1)
 
@@ -34,4 +34,4 @@ pub returns-in_default-free_slot : goal.returns-in_default-free_slot
 returns-in_default-free_slot c = sym (insert_6 base_rule _ _ c.requires.fit c.requires.ok (sym c.all_on_grid.ensures ∙ c.if-not-all_on_grid.false) (sym c.no_length.ensures ∙ c.if-no_length.false) (first_none _ (sym c.first_conflict.ensures ∙ c.in_default.is)) (first_none _ (sym c.free_slot.ensures ∙ c.in_default-free_slot.is)))
 
 pub place-requires : goal.place-requires
-place-requires c = record { passed = c.requires; grid = sym c.all_on_grid.ensures ∙ c.if-not-all_on_grid.false; long = sym c.no_length.ensures ∙ c.if-no_length.false; clear = first_none _ (sym c.first_conflict.ensures ∙ c.in_default.is); free = sym c.free_slot.ensures ∙ c.in-At-free_slot.is }
+place-requires c = record { passed = c.requires; grid = sym c.all_on_grid.ensures ∙ c.if-not-all_on_grid.false; long = sym c.no_length.ensures ∙ c.if-no_length.false; clear = first_none _ (sym c.first_conflict.ensures ∙ c.in_default.is); free = sym c.free_slot.ensures ∙ c.in-Some-free_slot.is }

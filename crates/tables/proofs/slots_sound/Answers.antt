@@ -1,19 +1,13 @@
-use mathlib.Core.Path.{sym, ◌∙◌}
-use native.Mathlib.Omega.{arith}
-use borrow.Author.Count.{below_none, below_more}
-use borrow.Author.Rules.{rules}
-use Rattle.tables.specs.Sound.{all_sound, one_unsound}
+use Rattle.std.proofs.Common.{rules, ◌/◌, ◌≡◌, true, false, length}
+use Rattle.std.proofs.lemmas.Iterator.{cases_from_all, YieldsList-from_range}
+use Rattle.definitions.specs.Tables.{slots_of, slot_sound}
 use Rattle.tables.specs.Rows.{slot_sound_at}
+use Rattle.tables.proofs.Loops.{every_from_all}
 use Rattle.tables.proofs.slots_sound.Goals as goal
 
-pub loop-s-init : goal.loop-s-init
-loop-s-init c = (search rules, below_none _)
-
-pub returns-then-not-slot_sound : goal.returns-then-not-slot_sound
-returns-then-not-slot_sound c = sym (one_unsound _ c.loop-s-test.true (sym (slot_sound_at _ _ c.row_at.ensures) ∙ sym c.slot_sound.ensures ∙ c.if-not-slot_sound.true))
-
-pub loop-s-preserved : goal.loop-s-preserved
-loop-s-preserved c = (omega arith, below_more _ _ c.loop-s.invariant.1 (sym (slot_sound_at _ _ c.row_at.ensures) ∙ sym c.slot_sound.ensures ∙ c.if-not-slot_sound.false))
-
 pub returns : goal.returns
-returns c = sym (all_sound _ (λ s h. c.loop-s.invariant.1 s (omega arith)))
+unfolding slots_of
+returns c =
+    let sound = slot_sound c.args.lines.now in let n = length c.args.lines.now / 8 in
+    every_from_all sound n _
+    (cases_from_all _ _ _ (λ s. sound s ≡ true) (λ s. sound s ≡ false) c.all.ensures.ran (YieldsList-from_range 0 n n (search rules) (search rules)) (λ x q k. search (rules, slot_sound_at)) (λ x q k. search (rules, slot_sound_at)))
