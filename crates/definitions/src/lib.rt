@@ -6,10 +6,10 @@
 pub struct Grid(pub u16);
 
 // A half-step number, 0 to 32,768: grid number g stands at half-step 2g + 1.
-#[derive(Clone, Copy)]
+#[derive(Clone, Copy, PartialEq, Eq)]
 pub struct Half(pub u16);
 
-#[derive(Clone, Copy)]
+#[derive(Clone, Copy, PartialEq, Eq)]
 pub struct Point {
     pub x: Half,
     pub y: Half,

@@ -1,7 +1,7 @@
 // How the line in the way conflicts. Told once, when insert is refused: the test of all pairs stays a plain yes or no.
 #![tactic(auto)]
 
-ghost use Rattle.std.specs.Prelude.{◌≡◌, true, ◌&&◌, ◌≤◌};
+ghost use Rattle.std.specs.Prelude.{◌≡◌, true, ◌≤◌};
 ghost use Rattle.definitions.specs.Shape.{is_end, kind_of};
 ghost use Rattle.definitions.specs.Calls.{all_on_grid, kind_number, conflict_detail};
 ghost use Rattle.geometry.specs.Means.{line_of};
@@ -12,10 +12,10 @@ use definitions::{Given, Kind, Point};
 use geometry::{Line, both_sides, line_of, same_point, straight, turn};
 use tables::line_at;
 
-fn both_ends(p: Point, q: Point, m: Line) -> bool
-    ensures { result ≡ is_end p (line_of m) && is_end q (line_of m) }
+fn is_end(p: Point, m: Line) -> bool
+    ensures { result ≡ is_end p (line_of m) }
 {
-    (same_point(p, m.a) | same_point(p, m.b)) & (same_point(q, m.a) | same_point(q, m.b))
+    same_point(p, m.a) | same_point(p, m.b)
 }
 
 // Of lines that conflict.
@@ -23,7 +23,7 @@ pub fn kind_of(l: Line, m: Line) -> Kind
     requires { LineEnds (line_of l) × LineEnds (line_of m) }
     ensures { result ≡ kind_of (line_of l) (line_of m) }
 {
-    if both_ends(l.a, l.b, m) {
+    if is_end(l.a, m) & is_end(l.b, m) {
         return Kind::Same;
     }
     let s = turn(l.a, l.b, m.a);
@@ -39,6 +39,7 @@ pub fn kind_of(l: Line, m: Line) -> Kind
     Kind::Touching
 }
 
+// stays: no `impl From<Kind> for u32`. It would have to stand beside Kind in definitions, where no function stands.
 pub fn kind_number(k: Kind) -> u32
     ensures { (result ≡ kind_number k) × (result ≤ 4) }
 {

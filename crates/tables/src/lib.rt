@@ -131,13 +131,11 @@ pub fn is_live(row: Row) -> bool
 }
 
 // The label above the line.
+// stays: a function each for the two labels, as each states a definition of its own and has an edit of its own.
 pub fn upper_label(row: Row) -> u16
     ensures { result ≡ upper_label (entries_of row) 0 }
 {
-    if row.x1 < row.x2 {
-        return row.left;
-    }
-    row.right
+    if row.x1 < row.x2 { row.left } else { row.right }
 }
 
 // The label below the line.
@@ -145,9 +143,10 @@ pub fn lower_label(row: Row) -> u16
     ensures { result ≡ lower_label (entries_of row) 0 }
 {
     if row.x2 <= row.x1 {
-        return row.left;
+        row.left
+    } else {
+        row.right
     }
-    row.right
 }
 
 pub fn live_sound(row: Row) -> bool
@@ -177,9 +176,10 @@ pub fn slot_sound(row: Row) -> bool
     ensures { result ≡ slot_sound (entries_of row) 0 }
 {
     if is_live(row) {
-        return live_sound(row);
+        live_sound(row)
+    } else {
+        empty_sound(row)
     }
-    empty_sound(row)
 }
 
 pub fn line_of_row(row: Row) -> Line
@@ -302,10 +302,7 @@ pub fn hinders(row: Row, l: Line) -> bool
     requires { (slot_sound (entries_of row) 0 ≡ true) × (same_point l.a l.b ≡ false) × LineEnds (line_of l) }
     ensures { result ≡ hinders_at (entries_of row) (line_of l) 0 }
 {
-    if is_live(row) {
-        return conflict(line_of_row(row), l);
-    }
-    false
+    is_live(row) && conflict(line_of_row(row), l)
 }
 
 // The lowest live slot whose line conflicts with the line given.
@@ -329,6 +326,7 @@ pub fn copy(from: &[u16], to: &mut [u16])
     requires { length from.now ≤ length to.old }
     ensures { to.new ≡ over 0 from.now to.old }
 {
+    // stays: a loop. With copy_from_slice building the tree takes 1.2 percent more instructions, since leaves' lists are short.
     for (i, entry) in from.iter().enumerate() {
         to[i] = *entry;
     }

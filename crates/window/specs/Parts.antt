@@ -1,13 +1,30 @@
 -- How the code asks whether a line meets a rectangle: each way by the line's ends, then by four turns.
-use Rattle.std.specs.Prelude.{◌≡◌, refl, Bool, true, false, not, ◌&&◌, ◌||◌, ℕ, leb, ℤ}
+use Rattle.std.specs.Prelude.{◌≡◌, refl, Bool, true, false, not, ◌&&◌, ◌||◌, ℕ, zero, suc, leb, ℤ, pos, negsuc}
 use Rattle.std.proofs.Common.{sym, ◌∙◌, ap₂}
 use Rattle.definitions.specs.Shape.{Line, Area, half_point, turn, left_of, right_of, min_x, max_x, min_y, max_y, corners, meets_area}
 use Rattle.geometry.specs.Boxes.{low_is, high_is, grouped}
+use Rattle.geometry.specs.Means.{both_same}
 use Rattle.window.specs.Means.{overlap_of, one_side_of}
 
 pub overlap_is : (low high a b : ℕ) → (leb a high || leb b high) && (leb low a || leb low b) ≡ overlap_of low high a b
 unfolding overlap_of
 overlap_is low high a b = ap₂ ◌&&◌ (low_is a b high) (high_is a b low)
+
+-- four turns lie on one side if each and the next do
+pub by_pairs : (a b c d : ℤ) → both_same a b && both_same b c && both_same c d ≡ one_side_of a b c d
+unfolding both_same one_side_of
+by_pairs (pos zero) b c d = refl
+by_pairs (pos (suc m)) (pos zero) c d = refl
+by_pairs (pos (suc m)) (pos (suc n)) (pos zero) d = refl
+by_pairs (pos (suc m)) (pos (suc n)) (pos (suc i)) (pos zero) = refl
+by_pairs (pos (suc m)) (pos (suc n)) (pos (suc i)) (pos (suc j)) = refl
+by_pairs (pos (suc m)) (pos (suc n)) (pos (suc i)) (negsuc j) = refl
+by_pairs (pos (suc m)) (pos (suc n)) (negsuc i) d = refl
+by_pairs (pos (suc m)) (negsuc n) c d = refl
+by_pairs (negsuc m) (pos n) c d = refl
+by_pairs (negsuc m) (negsuc n) (pos i) d = refl
+by_pairs (negsuc m) (negsuc n) (negsuc i) (pos j) = refl
+by_pairs (negsuc m) (negsuc n) (negsuc i) (negsuc j) = refl
 
 module _ (k : Area) (l : Line) where
   abbrev at : ℕ → ℕ → ℤ

@@ -15,7 +15,7 @@ ghost use Rattle.tables.specs.Rows.{entries_of};
 ghost use Rattle.window.specs.Means.{area_by, InMap, overlap_of, one_side_of, seen_at};
 
 use definitions::{Answer, Grid, Half, Point, Refusal, Window};
-use geometry::{Line, on_grid, to_half, turn};
+use geometry::{Line, both_one_side, on_grid, to_half, turn};
 use tables::{Row, copy, gather, is_live, line_of_row};
 
 // A closed rectangle by its four sides.
@@ -38,7 +38,7 @@ fn overlap(low: Half, high: Half, a: Half, b: Half) -> bool
 fn one_side(a: i32, b: i32, c: i32, d: i32) -> bool
     ensures { result ≡ one_side_of a b c d }
 {
-    ((0 < a) & (0 < b) & (0 < c) & (0 < d)) | ((a < 0) & (b < 0) & (c < 0) & (d < 0))
+    both_one_side(a, b) & both_one_side(b, c) & both_one_side(c, d)
 }
 
 // The boxes first: they tell most lines apart, and need no product.
@@ -46,10 +46,12 @@ pub fn meets_area(k: Area, l: Line) -> bool
     requires { InMap (area_by k) × LineEnds (line_of l) }
     ensures { result ≡ meets_area (area_by k) (line_of l) }
 {
-    let west = k.west;
-    let south = k.south;
-    let east = k.east;
-    let north = k.north;
+    let Area {
+        west,
+        south,
+        east,
+        north,
+    } = k;
     if !overlap(west, east, l.a.x, l.b.x) {
         return false;
     }
@@ -88,14 +90,12 @@ fn area_in(w: Window) -> Area
 }
 
 // The row is live, and its line meets the rectangle.
+// stays: beside tables::hinders. One function over the test of the line would be longer than the two.
 fn seen(row: Row, k: Area) -> bool
     requires { (slot_sound (entries_of row) 0 ≡ true) × InMap (area_by k) }
     ensures { result ≡ seen_at (entries_of row) (area_by k) 0 }
 {
-    if is_live(row) {
-        return meets_area(k, line_of_row(row));
-    }
-    false
+    is_live(row) && meets_area(k, line_of_row(row))
 }
 
 // The live slots whose line meets the rectangle, rising, at the front of `to`, and how many.
@@ -111,6 +111,7 @@ pub fn list_window(lines: &[u16], w: Window, slots: &mut [u16]) -> Answer
     requires { (every (slot_sound lines.now) (slots_of lines.now) ≡ true) × (length lines.now ≤ 8192) × (window_fits w ≡ true) }
     ensures { Windows result slots.new (listed_in (slots_in lines.now (area_in w)) slots.old) }
 {
+    // stays: the count beside the buffer, which the list's length is set against and which is what the call answers.
     let mut found = [0u16; 1024];
     let n = seen_slots(lines, &mut found, area_in(w));
     if slots.len() < n {

@@ -6,6 +6,6 @@ pub returns-then-south : goal.returns-then-south
 unfolding beyond
 returns-then-south c = rw c.if-south.true (left_says _ c.ranges.t)
 
-pub returns : goal.returns
+pub returns-else-south : goal.returns-else-south
 unfolding beyond
-returns c = rw c.if-south.false (right_says _ c.ranges.t)
+returns-else-south c = rw c.if-south.false (right_says _ c.ranges.t)

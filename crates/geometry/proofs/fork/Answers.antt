@@ -12,6 +12,6 @@ pub returns-then-straight : goal.returns-then-straight
 returns-then-straight c = let g = c.args in
     fork_yes g.v g.p g.q c.boxed.result (told is_zero c.turn.type_inv c.turn.ensures c.straight.ensures ∙ c.if-straight.true) c.boxed.ensures
 
-pub returns : goal.returns
-returns c = let g = c.args in
-    fork_no g.v g.p g.q (told is_zero c.turn.type_inv c.turn.ensures c.straight.ensures ∙ c.if-straight.false)
+pub returns-else-straight : goal.returns-else-straight
+returns-else-straight c = let g = c.args in
+    c.if-straight.false ∙ fork_no g.v g.p g.q (told is_zero c.turn.type_inv c.turn.ensures c.straight.ensures ∙ c.if-straight.false)

@@ -10,6 +10,6 @@ pub returns-then-straight : goal.returns-then-straight
 returns-then-straight c = let g = c.args in
     on_yes g.p (line_of g.l) c.boxed.result (ap is_zero (sym (to_z-of_z w32 g.t c.ranges.t ∙ c.requires)) ∙ sym c.straight.ensures ∙ c.if-straight.true) c.boxed.ensures
 
-pub returns : goal.returns
-returns c = let g = c.args in
-    on_no g.p (line_of g.l) (ap is_zero (sym (to_z-of_z w32 g.t c.ranges.t ∙ c.requires)) ∙ sym c.straight.ensures ∙ c.if-straight.false)
+pub returns-else-straight : goal.returns-else-straight
+returns-else-straight c = let g = c.args in
+    c.if-straight.false ∙ on_no g.p (line_of g.l) (ap is_zero (sym (to_z-of_z w32 g.t c.ranges.t ∙ c.requires)) ∙ sym c.straight.ensures ∙ c.if-straight.false)

@@ -1,7 +1,6 @@
 use Rattle.definitions.specs.Shape.{same_point}
-use mathlib.Core.Path.{refl}
 use Rattle.geometry.proofs.same_point.Goals as goal
 
 pub returns : goal.returns
 unfolding same_point
-returns c = refl
+returns c = c.eq.ensures

@@ -9,7 +9,7 @@ use lib.IntN.{ℤ, pos, neg_ℤ, sub_ℕ, ◌+ℤ◌, ◌-ℤ◌, ◌*ℤ◌, +�
 use lib.Signed.{mag, le_z}
 use mir.Syntax.{w32}
 use mir.Val.{of_z, to_z}
-use Rattle.algebra.specs.Machine.{Holds, holds_cast, sub_fits, sub_holds, mul_fits, mul_holds, add_fits, add_holds}
+use Rattle.algebra.specs.Machine.{Holds, sub_fits, sub_holds, mul_fits, mul_holds, add_fits, add_holds}
 use Rattle.geometry.specs.Bits.{called, nearer, zero_holds}
 use Rattle.geometry.specs.Means.{line_of, block_of}
 use Rattle.geometry.specs.Parts.{over_of, under_of, over_most, less, from_to}
@@ -30,23 +30,27 @@ above_holds {z = z} h ok e = called ok (record { value = rw h.value at e; within
 named : {v : ℕ} {y z : ℤ} {b : ℕ} → Holds w32 v y b → y ≡ z → Holds w32 v z b
 named h e = rw (sym e) h
 
+-- half the side as a signed number
+half_as : {h : ℕ} {r : ℤ} → mag r < 2 ^ 31 → r ≡ pos h → h ≤ 16384 → Holds w32 (of_z w32 r) (pos h) 16384
+half_as ok e h = called ok (record { value = e; within = h })
+
 -- how far the line runs east, times half the side
 up_fits : (a : After-apart) → Holds w32 (of_z w32 a.apart.result) (sub_ℕ a.args.l.b.x.0 a.args.l.a.x.0) 32766
 up_fits a = nearer a.apart.type_inv a.apart.ensures (ends_x a.requires.ends.first a.requires.ends.second)
 
 pub overflow_mul-up : goal.overflow_mul-up
-overflow_mul-up c = mul_fits (up_fits c) (holds_cast (half_side c.args.k.west.0 c.args.k.side c.requires.wide) (lit< tt)) (lit< tt)
+overflow_mul-up c = mul_fits (up_fits c) (half_as c.from-step.type_inv c.from-step.ensures (half_side c.args.k.west.0 c.args.k.side c.requires.wide)) (lit< tt)
 
 -- and how far it rises
 left_fits : (a : After-apart-2) → Holds w32 (of_z w32 a.apart-2.result) (sub_ℕ a.args.l.b.y.0 a.args.l.a.y.0) 32766
 left_fits a = nearer a.apart-2.type_inv a.apart-2.ensures (ends_y a.requires.ends.first a.requires.ends.second)
 
 pub overflow_mul-left : goal.overflow_mul-left
-overflow_mul-left c = mul_fits (left_fits c) (holds_cast (half_side c.args.k.west.0 c.args.k.side c.requires.wide) (lit< tt)) (lit< tt)
+overflow_mul-left c = mul_fits (left_fits c) (half_as c.from-step.type_inv c.from-step.ensures (half_side c.args.k.west.0 c.args.k.side c.requires.wide)) (lit< tt)
 
 module _ (b : After-above-2) where
-  half_holds : Holds w32 (b.args.k.side / 2) (pos (b.args.k.side / 2)) 16384
-  half_holds = holds_cast (half_side b.args.k.west.0 b.args.k.side b.requires.wide) (lit< tt)
+  half_holds : Holds w32 (of_z w32 b.from-step.result) (pos (b.args.k.side / 2)) 16384
+  half_holds = half_as b.from-step.type_inv b.from-step.ensures (half_side b.args.k.west.0 b.args.k.side b.requires.wide)
 
   run_holds : Holds w32 (of_z w32 b.apart.result) (sub_ℕ b.args.l.b.x.0 b.args.l.a.x.0) 32766
   run_holds = nearer b.apart.type_inv b.apart.ensures (ends_x b.requires.ends.first b.requires.ends.second)
@@ -58,10 +62,10 @@ module _ (b : After-above-2) where
   cᴮ = of_z w32 b.turn-c.result
 
   abbrev upᴮ : ℕ
-  upᴮ = of_z w32 (to_z w32 (of_z w32 b.apart.result) *ℤ to_z w32 (b.args.k.side / 2))
+  upᴮ = of_z w32 (to_z w32 (of_z w32 b.apart.result) *ℤ to_z w32 (of_z w32 b.from-step.result))
 
   abbrev leftᴮ : ℕ
-  leftᴮ = of_z w32 (to_z w32 (of_z w32 b.apart-2.result) *ℤ to_z w32 (b.args.k.side / 2))
+  leftᴮ = of_z w32 (to_z w32 (of_z w32 b.apart-2.result) *ℤ to_z w32 (of_z w32 b.from-step.result))
 
   abbrev c : ℤ
   c = sons.c (block_of b.args.k) (line_of b.args.l) b.requires

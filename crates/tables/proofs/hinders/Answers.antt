@@ -26,6 +26,6 @@ unfolding entries_of is_live line_at
 returns-then-is_live c =
     rw (sym c.is_live.ensures ∙ c.if-is_live.true) (c.conflict.ensures ∙ ap (λ (m : Line). conflict m (line_of c.args.l)) (ap₂ line_from c.line_of_row.ensures.0 c.line_of_row.ensures.1))
 
-pub returns : goal.returns
+pub returns-else-is_live : goal.returns-else-is_live
 unfolding entries_of is_live
-returns c = rw (sym c.is_live.ensures ∙ c.if-is_live.false)
+returns-else-is_live c = rw (sym c.is_live.ensures ∙ c.if-is_live.false) c.if-is_live.false

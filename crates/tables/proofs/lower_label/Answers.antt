@@ -7,6 +7,6 @@ pub returns-then-row : goal.returns-then-row
 unfolding lower_label entries_of
 returns-then-row c = rw (le-ltb _ _ c.if-row.true)
 
-pub returns : goal.returns
+pub returns-else-row : goal.returns-else-row
 unfolding lower_label entries_of
-returns c = rw (lt-ltb _ _ c.if-row.false)
+returns-else-row c = rw (lt-ltb _ _ c.if-row.false)

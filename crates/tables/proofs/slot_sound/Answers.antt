@@ -8,6 +8,6 @@ pub returns-then-is_live : goal.returns-then-is_live
 unfolding is_live entries_of
 returns-then-is_live c = c.live_sound.ensures ∙ sym (sound_live (entries_of c.args.row) 0 (sym c.is_live.ensures ∙ c.if-is_live.true))
 
-pub returns : goal.returns
+pub returns-else-is_live : goal.returns-else-is_live
 unfolding is_live entries_of
-returns c = c.empty_sound.ensures ∙ sym (sound_empty (entries_of c.args.row) 0 (sym c.is_live.ensures ∙ c.if-is_live.false))
+returns-else-is_live c = c.empty_sound.ensures ∙ sym (sound_empty (entries_of c.args.row) 0 (sym c.is_live.ensures ∙ c.if-is_live.false))

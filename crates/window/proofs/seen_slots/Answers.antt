@@ -1,4 +1,4 @@
-use Rattle.std.proofs.Common.{◌≡◌, true, sym, ◌∙◌, rules}
+use Rattle.std.proofs.Common.{◌≡◌, true, ◌∙◌, rules}
 use Rattle.definitions.specs.Tables.{slot_sound}
 use Rattle.definitions.specs.Window.{slots_in}
 use Rattle.tables.specs.Rows.{entries_of, slot_sound_at}

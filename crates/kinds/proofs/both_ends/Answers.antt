@@ -1,8 +1,0 @@
-use mathlib.Core.Path.{ap₂}
-use mathlib.Core.Bool.{◌&&◌, ◌||◌}
-use Rattle.definitions.specs.Shape.{is_end}
-use Rattle.kinds.proofs.both_ends.Goals as goal
-
-pub returns : goal.returns
-unfolding is_end
-returns c = ap₂ ◌&&◌ (ap₂ ◌||◌ c.same_point.ensures c.same_point-2.ensures) (ap₂ ◌||◌ c.same_point-3.ensures c.same_point-4.ensures)
