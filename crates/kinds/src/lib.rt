@@ -39,7 +39,7 @@ pub fn kind_of(l: Line, m: Line) -> Kind
     Kind::Touching
 }
 
-// stays: no `impl From<Kind> for u32`. It would have to stand beside Kind in definitions, where no function stands.
+// stays: the numbers stand here, and not with Kind's variants. Two variants of one number, which an edit tries, would not compile.
 pub fn kind_number(k: Kind) -> u32
     ensures { (result ≡ kind_number k) × (result ≤ 4) }
 {

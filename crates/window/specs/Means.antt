@@ -3,7 +3,7 @@ use Rattle.std.specs.Prelude.{Bool, ◌&&◌, ◌||◌, List, ℕ, ◌≤◌, mi
 use Rattle.algebra.specs.Words.{is_positive, is_negative}
 use Rattle.definitions.specs.Shape.{Area, meets_area}
 use Rattle.definitions.specs.Tables.{is_live, line_at}
-use Rattle.window.specs.declared.Area as code
+use Rattle.window.specs.declared.area.Area as code
 
 abbrev pub area_by : code.Area → Area
 area_by k = record { west = k.west.0; south = k.south.0; east = k.east.0; north = k.north.0 }

@@ -12,20 +12,14 @@ ghost use Rattle.geometry.specs.Range.{LineEnds};
 ghost use Rattle.tables.specs.Gathered.{Front};
 ghost use Rattle.tables.specs.Lent.{Windows};
 ghost use Rattle.tables.specs.Rows.{entries_of};
-ghost use Rattle.window.specs.Means.{area_by, InMap, overlap_of, one_side_of, seen_at};
+ghost use Rattle.window.specs.Means.{area_by, overlap_of, one_side_of, seen_at};
 
+mod area;
+
+pub use area::Area;
 use definitions::{Answer, Grid, Half, Point, Refusal, Window};
 use geometry::{Line, both_one_side, on_grid, to_half, turn};
 use tables::{Row, copy, gather, is_live, line_of_row};
-
-// A closed rectangle by its four sides.
-#[derive(Clone, Copy)]
-pub struct Area {
-    pub west: Half,
-    pub south: Half,
-    pub east: Half,
-    pub north: Half,
-}
 
 // The stretch from a to b, in either order, and that from low to high have a number in common.
 fn overlap(low: Half, high: Half, a: Half, b: Half) -> bool
@@ -43,7 +37,7 @@ fn one_side(a: i32, b: i32, c: i32, d: i32) -> bool
 
 // The boxes first: they tell most lines apart, and need no product.
 pub fn meets_area(k: Area, l: Line) -> bool
-    requires { InMap (area_by k) × LineEnds (line_of l) }
+    requires { LineEnds (line_of l) }
     ensures { result ≡ meets_area (area_by k) (line_of l) }
 {
     let Area {
@@ -92,7 +86,7 @@ fn area_in(w: Window) -> Area
 // The row is live, and its line meets the rectangle.
 // stays: beside tables::hinders. One function over the test of the line would be longer than the two.
 fn seen(row: Row, k: Area) -> bool
-    requires { (slot_sound (entries_of row) 0 ≡ true) × InMap (area_by k) }
+    requires { slot_sound (entries_of row) 0 ≡ true }
     ensures { result ≡ seen_at (entries_of row) (area_by k) 0 }
 {
     is_live(row) && meets_area(k, line_of_row(row))
@@ -100,7 +94,7 @@ fn seen(row: Row, k: Area) -> bool
 
 // The live slots whose line meets the rectangle, rising, at the front of `to`, and how many.
 fn seen_slots(lines: &[u16], to: &mut [u16], k: Area) -> usize
-    requires { (every (slot_sound lines.now) (slots_of lines.now) ≡ true) × (length lines.now ≤ 8192) × (length lines.now ≤ 8 * length to.old) × InMap (area_by k) }
+    requires { (every (slot_sound lines.now) (slots_of lines.now) ≡ true) × (length lines.now ≤ 8192) × (length lines.now ≤ 8 * length to.old) }
     ensures { Front (slots_in lines.now (area_by k)) to.old to.new result }
 {
     gather(lines, to, |row| seen(row, k))

@@ -1,5 +1,5 @@
 use mathlib.Core.Path.{refl}
-use Rattle.window.specs.Seen.{on_grid_lem}
+use Rattle.window.specs.Seen.{on_grid_lem, in_map}
 use Rattle.window.proofs.area_in.Goals as goal
 
 pub to_half-requires : goal.to_half-requires
@@ -13,6 +13,16 @@ to_half-requires-3 c = (on_grid_lem _ c.requires).2
 
 pub to_half-requires-4 : goal.to_half-requires-4
 to_half-requires-4 c = (on_grid_lem _ c.requires).3
+
+pub invariant_of-result : goal.invariant_of-result
+invariant_of-result c =
+    let m = in_map _ c.requires in
+    record {
+      west_in_map = rw c.to_half.ensures m.west;
+      south_in_map = rw c.to_half-2.ensures m.south;
+      east_in_map = rw c.to_half-3.ensures m.east;
+      north_in_map = rw c.to_half-4.ensures m.north;
+    }
 
 pub returns : goal.returns
 returns c = rw (c.to_half.ensures, c.to_half-2.ensures, c.to_half-3.ensures, c.to_half-4.ensures) refl

@@ -8,7 +8,6 @@ use borrow.Author.Rules.{rules}
 use Rattle.definitions.specs.Shape.{Area}
 use Rattle.definitions.specs.Window.{slots_in}
 use Rattle.tables.specs.Gathered.{Front, front_fits}
-use Rattle.window.specs.Seen.{in_map}
 use Rattle.window.specs.Listed.{list_short, list_filled}
 use Rattle.window.proofs.list_window.Goals as goal
 
@@ -16,7 +15,7 @@ found_in : (lines : List ℕ) {before found : List ℕ} {n : ℕ} {k j : Area} �
 found_in lines {before} {found} {n} e = subst (λ (z : Area). Front (slots_in lines z) before found n) e
 
 pub seen_slots-n-requires : goal.seen_slots-n-requires
-seen_slots-n-requires c = (search rules, search rules, search rules, rw c.area_in.ensures (in_map _ c.requires.2))
+seen_slots-n-requires c = (search rules, search rules, search rules)
 
 pub returns-then-slots-n : goal.returns-then-slots-n
 returns-then-slots-n c = list_short (found_in _ c.area_in.ensures c.seen_slots-n.ensures) _ c.if-slots-n.true

@@ -13,16 +13,16 @@ returns-then-not-overlap-2 c =
     apart_y (area_by c.args.k) (line_of c.args.l) (sym c.overlap.ensures ∙ c.if-not-overlap.false) (sym c.overlap-2.ensures ∙ c.if-not-overlap-2.true)
 
 pub turn-a-requires : goal.turn-a-requires
-turn-a-requires c = let s = c.requires in (s.1.first, s.1.second, record { to_east = s.0.west; to_north = s.0.south })
+turn-a-requires c = let s = c.requires in let k = c.args.k in (s.first, s.second, record { to_east = k.west_in_map; to_north = k.south_in_map })
 
 pub turn-b-requires : goal.turn-b-requires
-turn-b-requires c = let s = c.requires in (s.1.first, s.1.second, record { to_east = s.0.east; to_north = s.0.south })
+turn-b-requires c = let s = c.requires in let k = c.args.k in (s.first, s.second, record { to_east = k.east_in_map; to_north = k.south_in_map })
 
 pub turn-c-requires : goal.turn-c-requires
-turn-c-requires c = let s = c.requires in (s.1.first, s.1.second, record { to_east = s.0.west; to_north = s.0.north })
+turn-c-requires c = let s = c.requires in let k = c.args.k in (s.first, s.second, record { to_east = k.west_in_map; to_north = k.north_in_map })
 
 pub turn-d-requires : goal.turn-d-requires
-turn-d-requires c = let s = c.requires in (s.1.first, s.1.second, record { to_east = s.0.east; to_north = s.0.north })
+turn-d-requires c = let s = c.requires in let k = c.args.k in (s.first, s.second, record { to_east = k.east_in_map; to_north = k.north_in_map })
 
 pub returns : goal.returns
 returns c =

@@ -11,13 +11,13 @@ use Rattle.window.proofs.seen.Goals as goal
 
 pub line_of_row-requires : goal.line_of_row-requires
 unfolding entries_of is_live
-line_of_row-requires c = let m = on_map (entries_of c.args.row) 0 (omega arith) c.requires.0 (sym c.is_live.ensures ∙ c.if-is_live.true) in (m.grid_x1, m.grid_y1, m.grid_x2, m.grid_y2)
+line_of_row-requires c = let m = on_map (entries_of c.args.row) 0 (omega arith) c.requires (sym c.is_live.ensures ∙ c.if-is_live.true) in (m.grid_x1, m.grid_y1, m.grid_x2, m.grid_y2)
 
 pub meets_area-requires : goal.meets_area-requires
 unfolding entries_of is_live
 meets_area-requires c =
-    let m = on_map (entries_of c.args.row) 0 (omega arith) c.requires.0 (sym c.is_live.ensures ∙ c.if-is_live.true) in
-    (c.requires.1, grid_ends c.line_of_row.ensures (m.grid_x1, m.grid_y1, m.grid_x2, m.grid_y2))
+    let m = on_map (entries_of c.args.row) 0 (omega arith) c.requires (sym c.is_live.ensures ∙ c.if-is_live.true) in
+    grid_ends c.line_of_row.ensures (m.grid_x1, m.grid_y1, m.grid_x2, m.grid_y2)
 
 pub returns-then-is_live : goal.returns-then-is_live
 unfolding entries_of is_live line_at
