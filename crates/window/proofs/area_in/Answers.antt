@@ -1,4 +1,5 @@
 use mathlib.Core.Path.{refl}
+use native.Mathlib.Omega.{arith}
 use Rattle.window.specs.Seen.{on_grid_lem, in_map}
 use Rattle.window.proofs.area_in.Goals as goal
 
@@ -18,10 +19,10 @@ pub invariant_of-result : goal.invariant_of-result
 invariant_of-result c =
     let m = in_map _ c.requires in
     record {
-      west_in_map = rw c.to_half.ensures m.west;
-      south_in_map = rw c.to_half-2.ensures m.south;
-      east_in_map = rw c.to_half-3.ensures m.east;
-      north_in_map = rw c.to_half-4.ensures m.north;
+      west_in_map = rw c.to_half.ensures (omega (arith, m.west));
+      south_in_map = rw c.to_half-2.ensures (omega (arith, m.south));
+      east_in_map = rw c.to_half-3.ensures (omega (arith, m.east));
+      north_in_map = rw c.to_half-4.ensures (omega (arith, m.north));
     }
 
 pub returns : goal.returns
