@@ -5,13 +5,13 @@ use mathlib.Core.Bool.{Bool}
 use mathlib.Core.List.{List}
 use Prim.Native.Nat.{ℕ, suc, ◌≤◌}
 use native.Mathlib.Omega.{arith}
-use lib.ListN.{length, get_or}
+use lib.ListN.{length}
 use Rattle.definitions.specs.declared.Point.{Point}
 use Rattle.definitions.specs.Shape.{whole_map}
 use Rattle.geometry.specs.Means.{block_of}
 use Rattle.geometry.specs.Range.{End}
 use Rattle.meaning.specs.Found.{Found}
-use Rattle.meaning.specs.Column.{near, far}
+use Rattle.meaning.specs.Column.{far}
 use Rattle.path.specs.declared.Spot.{Spot}
 use Rattle.path.specs.Placed.{Placed}
 use Rattle.path.specs.Asked.{left_at, TurnedOff, TurnsOff, Beside}

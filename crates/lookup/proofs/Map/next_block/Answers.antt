@@ -1,6 +1,6 @@
 -- `lookup::Map::next_block` meets its contract.
-use Rattle.std.proofs.Common.{arith, subst, sym}
-use Rattle.lookup.specs.Asked.{NextIs, none_left, next_is}
+use Rattle.std.proofs.Common.{arith}
+use Rattle.lookup.specs.Asked.{none_left, next_is}
 use Rattle.lookup.proofs.Walk.{next_put, next_none, next_read, next_beside}
 use Rattle.lookup.proofs.Map.next_block.Goals as goal
 
