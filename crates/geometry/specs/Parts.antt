@@ -1,11 +1,12 @@
 -- A number by its parts over and under 0, of which one is 0; and whether it lies between two bounds.
-use Rattle.std.specs.Prelude.{◌≡◌, refl, Bool, ◌&&◌, ℕ, zero, suc, ◌+◌, ◌≤◌, min, leb, ℤ, pos, negsuc, neg_ℤ, nat_abs, ◌+ℤ◌, ◌-ℤ◌}
+use Rattle.std.specs.Prelude.{◌≡◌, refl, Bool, true, false, ◌&&◌, ℕ, zero, suc, ◌+◌, ◌≤◌, min, leb, ℤ, pos, negsuc, neg_ℤ, nat_abs, ◌+ℤ◌, ◌-ℤ◌}
 use Rattle.std.proofs.Common.{sym, ap₂, ◌∙◌, arith, leb-true, le-leb, lt-ltb}
 use Rattle.std.proofs.Math.IntN.{+ℤ_invr}
 use Rattle.std.specs.Int.{int_max}
 use Rattle.std.specs.Int.Signed.{le_z}
 use Rattle.algebra.specs.Signs.{Is, equal_of_zero, add_is, neg_is, pos_is, one_is}
-use Rattle.algebra.specs.Tests.{both_ways}
+use Rattle.algebra.specs.Tests.{both_ways, no_path}
+use Rattle.algebra.specs.Words.{is_negative}
 
 unfoldable pub over_of : ℤ → ℕ
 over_of (pos n) = n
@@ -29,6 +30,17 @@ pub over_most : (z : ℤ) → over_of z ≤ nat_abs z
 unfolding over_of
 over_most (pos n) = omega arith
 over_most (negsuc n) = omega arith
+
+-- by its sign
+pub over_negative : (z : ℤ) → is_negative z ≡ true → over_of z ≡ 0
+unfolding over_of
+over_negative (pos n) e = no_path e
+over_negative (negsuc n) e = refl
+
+pub over_else : (z : ℤ) → is_negative z ≡ false → z ≡ pos (over_of z)
+unfolding over_of
+over_else (pos n) e = refl
+over_else (negsuc n) e = no_path (sym e)
 
 -- it is the greater of the number and 0
 pub max_over : (z : ℤ) → int_max z (pos 0) ≡ pos (over_of z)
