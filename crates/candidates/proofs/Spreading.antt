@@ -2,7 +2,7 @@
 use mathlib.Core.Path.{◌≡◌, refl, sym, ap, ◌∙◌}
 use mathlib.Core.Bool.{Bool, true, false}
 use mathlib.Core.List.{List, [], ◌∷◌, ◌++◌, append-nil, Memᴰ}
-use Prim.Native.Nat.{ℕ, ◌+◌, ◌-◌, ◌*◌, ◌≤◌, ◌<◌}
+use Prim.Native.Nat.{ℕ, ◌+◌, ◌-◌, ◌≤◌, ◌<◌}
 use native.Mathlib.Nat.{add-zero}
 use native.Mathlib.Numerals.{add-one}
 use native.Mathlib.Omega.{arith}
@@ -19,7 +19,7 @@ use Rattle.geometry.specs.declared.Met.{Met}
 use Rattle.geometry.specs.Means.{line_of, SonsAsked, SonsMet}
 use Rattle.tables.specs.Rows.{OnMap, IsLine, line_ends}
 use Rattle.candidates.specs.declared.Span.{Span}
-use Rattle.candidates.specs.Spread.{meets_at, Spreadable, Son}
+use Rattle.candidates.specs.Spread.{meets_at, Spreadable}
 
 -- ---- one list: its part at .. end holds those of the first candidates that pass
 pub record Fills (p : ℕ → Bool) (slots₀ slots : List ℕ) (from i at end : ℕ) : Type 0 where
@@ -191,24 +191,3 @@ module _ {lines s₀ : List ℕ} {c : Span} {kb : Block} (asked : Spreadable lin
             turn : (k : Block) (at end : ℕ) → Fills (meets_at lines k) s₀ slots c.from i at end → end < length l' → get_or l' end 0 ≡ v → slice at end l' ≡ slice at end slots
                 → (b : Bool) → b ≡ meets k (line_of r) → Fills (meets_at lines k) s₀ l' c.from (i + 1) at (end + from_bool b)
             turn k at end f room put same b d = fills_turn _ s₀ slots l' c.from i at end v f t.lo in_table this_is room put same b (sym (met_is k e) ∙ sym d)
-
-  -- a son's span, once every candidate is spread
-  pub son_done : {p : ℕ → Bool} {at end i : ℕ} {slots : List ℕ} (r : Span) → c.to ≤ i → i ≤ c.to → at + n ≤ c.free + 4 * n
-      → Fills p s₀ slots c.from i at end → r ≡ record { from = at; to = end; free = c.free + n + n + n + n } → Son c.free n (those p (slice c.from c.to s₀)) slots r
-  son_done {p} {at} {end} {i} {slots} r lo hi room f e =
-      let u = f.up in
-      let q = f.few in
-      let w = asked.span in
-      let ef = ap (λ (s : Span). s.from) e in
-      let et = ap (λ (s : Span). s.to) e in
-      let en = ap (λ (s : Span). s.free) e in
-      record {
-        span = omega arith;
-        few = omega arith;
-        below = omega arith;
-        next = omega arith;
-        holds = ap (λ (a : ℕ). slice a r.to slots) ef ∙ ap (λ (b : ℕ). slice at b slots) et ∙ f.holds ∙ ap (λ (j : ℕ). those p (slice c.from j s₀)) same;
-      }
-    where
-      same : i ≡ c.to
-      same = omega arith

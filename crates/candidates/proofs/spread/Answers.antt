@@ -1,5 +1,4 @@
-use native.Mathlib.Omega.{arith}
-use Rattle.candidates.proofs.Spreading.{turned_none, turned_on, on_map, sons_asked, son_done}
+use Rattle.candidates.proofs.Spreading.{turned_none, turned_on, on_map, sons_asked}
 use Rattle.candidates.proofs.spread.Goals as goal
 
 pub loop-i-init : goal.loop-i-init
@@ -15,15 +14,3 @@ pub loop-i-preserved : goal.loop-i-preserved
 loop-i-preserved c =
     rw (c.from-nw.ensures, c.from-ne.ensures, c.from-sw.ensures, c.from-se.ensures)
     (turned_on c.requires c.loop-i.invariant c.loop-i-test.true c.line_at.ensures c.sons_met-m.result c.sons_met-m.ensures)
-
-pub returns : goal.returns
-returns c =
-    let v = c.loop-i.invariant in
-    let p = c.requires in
-    record {
-      below = v.below;
-      nw = son_done p _ c.loop-i-test.false v.hi (omega arith) v.f_nw c.new.ensures;
-      ne = son_done p _ c.loop-i-test.false v.hi (omega arith) v.f_ne c.new-2.ensures;
-      sw = son_done p _ c.loop-i-test.false v.hi (omega arith) v.f_sw c.new-3.ensures;
-      se = son_done p _ c.loop-i-test.false v.hi (omega arith) v.f_se c.new-4.ensures;
-    }
