@@ -8,9 +8,6 @@ use Rattle.leaves.proofs.Fan.{not_few, not_long}
 use Rattle.tables.specs.Rows.{line_ends}
 use Rattle.leaves.proofs.leaf_conflicts.Goals as goal
 
-pub bounds-slots-0 : goal.bounds-slots-0
-bounds-slots-0 c = omega (arith, not_few)
-
 pub line_at-l-requires : goal.line_at-l-requires
 line_at-l-requires c =
     let h : 0 < length c.args.slots.now = omega (arith, not_few) in
