@@ -13,7 +13,7 @@ use Rattle.definitions.specs.Tree.{simple as simpleOf}
 use Rattle.geometry.specs.Means.{block_of}
 use Rattle.rule.specs.Rule.{Candidates, left_whole}
 use Rattle.tree.proofs.Sequence.{grown_divided}
-use Rattle.tree.proofs.Sons.{left_whole_lem, is_divided, grown_leaf, grown_none, ready_down, spreadable, no_son, son_at, son_ready, son_then, sons_grown, no_more}
+use Rattle.tree.proofs.Sons.{left_whole_lem, is_divided, grown_leaf, grown_none, ready_down, no_son, son_at, son_ready, son_then, sons_grown, no_more}
 use Rattle.tree.proofs.+build_block_build_sons.Goals as goal
 
 -- the part of the slots that is tested is the block's candidates
@@ -37,13 +37,6 @@ build_block-returns-then-left_whole t c =
     let leaf = left_whole_lem c.args.lines.now _ _ c.args.level (sym c.if-left_whole.true ∙ w) c.requires.of_tree c.requires.candidates in
     grown_leaf _ _ _ c.args.level leaf _ p c.put_leaf.ensures refl
 
-pub build_block-overflow_sub-level : goal.build_block-overflow_sub-level
-build_block-overflow_sub-level t c =
-    let p = part_is c.args.c.from c.args.c.to c.args.slots.now c.requires.span in
-    let w = whole_is c.args.slots.now c.args.lines.now c.args.c.from c.args.c.to c.args.level (block_of c.args.k) p c.left_whole.ensures in
-    let d = is_divided _ _ _ _ (sym c.if-left_whole.false ∙ w) c.requires.of_tree in
-    omega (arith, d.some)
-
 pub build_block-build_sons-requires : goal.build_block-build_sons-requires
 build_block-build_sons-requires t c =
     let p = part_is c.args.c.from c.args.c.to c.args.slots.now c.requires.span in
@@ -57,9 +50,6 @@ build_block-returns t c =
     let w = whole_is c.args.slots.now c.args.lines.now c.args.c.from c.args.c.to c.args.level (block_of c.args.k) p c.left_whole.ensures in
     let d = is_divided _ _ _ _ (sym c.if-left_whole.false ∙ w) c.requires.of_tree in
     rw (d.nodes_are, d.listings_are) (grown_divided _ _ c.args.at _ c.args.nodes.now c.args.listings.now _ _ refl refl c.build_sons.ensures)
-
-pub build_sons-spread-s-requires : goal.build_sons-spread-s-requires
-build_sons-spread-s-requires t c = spreadable c.requires
 
 pub build_sons-loop-son-init : goal.build_sons-loop-son-init
 build_sons-loop-son-init t c = no_son c.requires c.spread-s.auto.slots c.requires.node c.requires.listing
