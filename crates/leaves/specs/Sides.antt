@@ -1,5 +1,5 @@
 -- A fan parted by a way from its common end: each side is tested for itself.
-use Rattle.std.specs.Prelude.{◌≡◌, Bool, ℕ, ◌≤◌, length}
+use Rattle.std.specs.Prelude.{◌≡◌, Bool, ℕ, ◌≤◌, length, take}
 use Rattle.std.proofs.Math.Path.{refl, ap}
 use Rattle.std.proofs.Common.{sym, ◌∙◌, ap₂, arith}
 use Rattle.std.proofs.Math.Bool.{true, false, not, ◌&&◌, beq}
@@ -28,6 +28,11 @@ pub record Fan (lines : List ℕ) (v : Point) (slots : List ℕ) : Type 0 where
   pub ends : every (ends_at lines v) slots ≡ true
   pub hub : End v
   pub few : length slots ≤ 1024
+
+-- the r slots that pass the test stand at the front of a table
+pub record Kept (p : ℕ → Bool) (slots after : List ℕ) (r : ℕ) : Type 0 where
+  pub count : r ≡ length (those p slots)
+  pub front : take r after ≡ those p slots
 
 -- ---- slots that a test parts so that two of them conflict only within a part
 

@@ -8,7 +8,7 @@ ghost use Rattle.definitions.specs.Tables.{none_conflict};
 ghost use Rattle.geometry.specs.Means.{line_of};
 ghost use Rattle.geometry.specs.Range.{End, LineEnds};
 ghost use Rattle.leaves.specs.Fans.{leaves_left};
-ghost use Rattle.leaves.specs.Sides.{ends_at, on_side, Fan};
+ghost use Rattle.leaves.specs.Sides.{ends_at, on_side, Fan, Kept};
 ghost use Rattle.leaves.specs.Parting.{far_end, mean_end, pivot_of};
 ghost use Rattle.leaves.specs.Pass.{clear_of, leaf_apart, Good, TreeUsed};
 
@@ -84,17 +84,11 @@ pub fn leaves_left(l: Line, v: Point, w: Point) -> bool
     left(turn(v, w, l.a)) | left(turn(v, w, l.b))
 }
 
-// The slots whose lines leave v on this side of the way to w, in the front of kept.
-pub fn keep<'k>(
-    lines: &[u16],
-    slots: &[u16],
-    kept: &'k mut [u16],
-    v: Point,
-    w: Point,
-    side: bool,
-) -> &'k [u16]
+// The slots whose lines leave v on this side of the way to w, at the front of kept, and how many.
+// stays: the count beside the buffer. `Kept` says what the buffer holds afterwards, which no clause can say of one that is handed on as a slice.
+pub fn keep(lines: &[u16], slots: &[u16], kept: &mut [u16], v: Point, w: Point, side: bool) -> usize
     requires { Good lines.now slots.now × (length slots.now ≤ length kept.old) × End v × End w }
-    ensures { result.now ≡ those (on_side lines.now v w side) slots.now }
+    ensures { Kept (on_side lines.now v w side) slots.now kept.new result }
 {
     let mut n: usize = 0;
     for &s in slots {
@@ -105,7 +99,7 @@ pub fn keep<'k>(
             n += 1;
         }
     }
-    &kept[..n]
+    n
 }
 
 // The mean of so many numbers, by their sum.
@@ -181,7 +175,8 @@ pub fn side_conflicts(
     ensures { result ≡ not (leaf_apart lines.now (those (on_side lines.now v w side) slots.now)) }
 {
     let mut kept = [0u16; 1024];
-    fan_conflicts(lines, keep(lines, slots, &mut kept, v, w, side), v, depth)
+    let n = keep(lines, slots, &mut kept, v, w, side);
+    fan_conflicts(lines, &kept[..n], v, depth)
 }
 
 // The lines of two of the slots conflict. Where a leaf has many lines they mostly have a common end.

@@ -17,4 +17,4 @@ pub fan_conflicts-returns : goal.fan_conflicts-returns
 fan_conflicts-returns t c = second_side c.requires c.pivot-w.result c.side_conflicts.ensures c.if-side_conflicts.false c.side_conflicts-2.ensures
 
 pub side_conflicts-fan_conflicts-requires : goal.side_conflicts-fan_conflicts-requires
-side_conflicts-fan_conflicts-requires t c = (omega arith, kept_fan _ c.keep.ensures c.requires.0)
+side_conflicts-fan_conflicts-requires t c = (omega arith, kept_fan c.keep-n.ensures c.requires.0)
