@@ -2,28 +2,22 @@
 #![tactic(auto)]
 
 ghost use Rattle.std.specs.Prelude.{◌≡◌, true, ◌≤◌};
-ghost use Rattle.definitions.specs.Shape.{is_end, kind_of};
+ghost use Rattle.definitions.specs.Shape.{kind_of};
 ghost use Rattle.definitions.specs.Calls.{all_on_grid, kind_number, conflict_detail};
 ghost use Rattle.geometry.specs.Means.{line_of};
 ghost use Rattle.geometry.specs.Range.{LineEnds};
 ghost use Rattle.tables.specs.Rows.{OnMap};
 
-use definitions::{Given, Kind, Point};
-use geometry::{Line, both_sides, line_of, same_point, straight, turn};
+use definitions::{Given, Kind};
+use geometry::{Line, both_sides, ends_at, line_of, straight, turn};
 use tables::line_at;
-
-fn is_end(p: Point, m: Line) -> bool
-    ensures { result ≡ is_end p (line_of m) }
-{
-    same_point(p, m.a) | same_point(p, m.b)
-}
 
 // Of lines that conflict.
 pub fn kind_of(l: Line, m: Line) -> Kind
     requires { LineEnds (line_of l) × LineEnds (line_of m) }
     ensures { result ≡ kind_of (line_of l) (line_of m) }
 {
-    if is_end(l.a, m) & is_end(l.b, m) {
+    if ends_at(m, l.a) & ends_at(m, l.b) {
         return Kind::Same;
     }
     let s = turn(l.a, l.b, m.a);

@@ -3,7 +3,7 @@
 
 ghost use Rattle.std.specs.Prelude.{◌≡◌, false, not, ◌*◌, ◌/◌, ◌≤◌, ◌<◌, length};
 ghost use Rattle.algebra.specs.Words.{every, those};
-ghost use Rattle.definitions.specs.Shape.{same_point, is_end};
+ghost use Rattle.definitions.specs.Shape.{same_point};
 ghost use Rattle.definitions.specs.Tables.{none_conflict};
 ghost use Rattle.geometry.specs.Means.{line_of};
 ghost use Rattle.geometry.specs.Range.{End, LineEnds};
@@ -13,7 +13,7 @@ ghost use Rattle.leaves.specs.Parting.{far_end, mean_end, pivot_of};
 ghost use Rattle.leaves.specs.Pass.{clear_of, leaf_apart, Good, TreeUsed};
 
 use definitions::{Half, Point};
-use geometry::{Line, conflict, left, same_point, turn};
+use geometry::{Line, conflict, ends_at, left, same_point, turn};
 use tables::line_at;
 
 // To test the pairs of fewer lines costs less than to part them.
@@ -49,13 +49,6 @@ pub fn pairs_conflict(lines: &[u16], slots: &[u16]) -> bool
         }
     }
     false
-}
-
-// v is an end of the line.
-pub fn ends_at(l: Line, v: Point) -> bool
-    ensures { result ≡ is_end v (line_of l) }
-{
-    same_point(v, l.a) | same_point(v, l.b)
 }
 
 // v is an end of every line.

@@ -1,7 +1,7 @@
+use Rattle.definitions.specs.Shape.{is_end}
 use mathlib.Core.Path.{ap₂}
 use mathlib.Core.Bool.{◌||◌}
-use Rattle.definitions.specs.Shape.{is_end}
-use Rattle.kinds.proofs.is_end.Goals as goal
+use Rattle.geometry.proofs.ends_at.Goals as goal
 
 pub returns : goal.returns
 unfolding is_end
