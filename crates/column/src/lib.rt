@@ -27,7 +27,10 @@ fn go_on(index: &[u16], later: &mut [u16], p: Point, at: Spot, south: bool) -> S
     put_four(
         later,
         at.by,
-        [index[after], last.west.0, last.south.0, last.side],
+        index[after],
+        last.west.0,
+        last.south.0,
+        last.side,
     );
     let son = entry_of(entry, south);
     Spot {

@@ -70,7 +70,10 @@ fn go_in(index: &[u16], path: &mut [u16], p: Point, at: Spot) -> Spot
     put_four(
         path,
         at.by,
-        [entry as u16, above.west.0, above.south.0, above.side],
+        entry as u16,
+        above.west.0,
+        above.south.0,
+        above.side,
     );
     let upper = above.south.0 < p.y.0;
     let son = entry_of(entry, upper);
