@@ -94,11 +94,11 @@ impl Map<'_> {
         requires { InColumn self.now walks.now.path walks.now.later south p at level.old }
         ensures { NextIs self.now walks.now.path walks.now.later south p at level.new result }
     {
-        if at.by > 0 {
-            return Some(take_up(&walks.later, at.by - 1));
+        if at.by == 0 {
+            *level = turn_off(&walks.path, p, *level, south)?;
+            return Some(beside(self.index, &walks.path, *level, south));
         }
-        *level = turn_off(&walks.path, p, *level, south)?;
-        Some(beside(self.index, &walks.path, *level, south))
+        Some(take_up(&walks.later, at.by - 1))
     }
 
     // A walk of the column of leaves over p, from its own leaf on. What a leaf costs is asked before it is scanned; if that is not
@@ -115,12 +115,14 @@ impl Map<'_> {
         };
         let mut level = own.by;
         let mut best = None;
+        let mut left = walks.left;
         'leaves: loop {
             let cost = cost_of(self.nodes[at.node]);
-            if walks.left < cost {
+            if left < cost {
+                walks.left = left;
                 return self.search_plainly(p, &mut walks.left, south);
             }
-            walks.left -= cost;
+            left -= cost;
             match scan_leaf(
                 self.lines,
                 self.nodes,
@@ -132,7 +134,7 @@ impl Map<'_> {
                 south,
             ) {
                 Scan::On(s) => {
-                    walks.left = earn(walks.left, self.live.len() / 2);
+                    walks.left = earn(left, self.live.len() / 2);
                     return Some(answer_on(s));
                 }
                 Scan::Best(d) => best = d,
@@ -145,7 +147,7 @@ impl Map<'_> {
             };
             at = go_down(self.nodes, self.index, &mut walks.later, p, next, south);
         }
-        walks.left = earn(walks.left, self.live.len() / 2);
+        walks.left = earn(left, self.live.len() / 2);
         answer_of(self.lines, best, south)
     }
 

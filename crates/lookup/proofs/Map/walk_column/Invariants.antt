@@ -7,4 +7,4 @@ abbrev pub invariant-leaves : goal.invariant-leaves
 invariant-leaves l = record { stands : WalkAt l.self l.walks.path l.walks.later l.south l.p l.at l.level l.best; kept : l.walks.path ≡ l.fn.walks.path }
 
 abbrev pub decreases-leaves : goal.decreases-leaves
-decreases-leaves l = l.walks.left
+decreases-leaves l = l.left
