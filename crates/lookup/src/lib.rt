@@ -7,7 +7,7 @@ ghost use Rattle.definitions.specs.Lookup.{answer_at, answer_to, answers_to};
 ghost use Rattle.geometry.specs.Range.{End};
 ghost use Rattle.scan.specs.Asked.{Plain};
 ghost use Rattle.path.specs.Placed.{Mapped};
-ghost use Rattle.lookup.specs.Asked.{Ready, Counting, ToldBy, FoundIs, InColumn, NextIs, WalkAsked, AskedFrom};
+ghost use Rattle.lookup.specs.Asked.{Ready, Counting, ToldBy, FoundIs, WalkAsked, AskedFrom};
 
 use column::{go_down, scan_leaf, settled, take_up};
 use definitions::Point;
@@ -82,25 +82,6 @@ impl Map<'_> {
         }
     }
 
-    // The block after this one on the way, put by or beside the path; the path goes up to its level.
-    fn next_block(
-        &self,
-        walks: &Walks,
-        p: Point,
-        at: Spot,
-        level: &mut usize,
-        south: bool,
-    ) -> Option<Spot>
-        requires { InColumn self.now walks.now.path walks.now.later south p at level.old }
-        ensures { NextIs self.now walks.now.path walks.now.later south p at level.new result }
-    {
-        if at.by == 0 {
-            *level = turn_off(&walks.path, p, *level, south)?;
-            return Some(beside(self.index, &walks.path, *level, south));
-        }
-        Some(take_up(&walks.later, at.by - 1))
-    }
-
     // A walk of the column of leaves over p, from its own leaf on. What a leaf costs is asked before it is scanned; if that is not
     // there, a plain search.
     fn walk_column(&self, walks: &mut Walks, p: Point, own: Spot, south: bool) -> Option<u32>
@@ -142,10 +123,16 @@ impl Map<'_> {
             if settled(self.lines, p, at.block, best, south) {
                 break;
             }
-            let Some(next) = self.next_block(walks, p, at, &mut level, south) else {
-                break;
-            };
-            at = go_down(self.nodes, self.index, &mut walks.later, p, next, south);
+            if at.by == 0 {
+                let Some(up) = turn_off(&walks.path, p, level, south) else {
+                    break;
+                };
+                level = up;
+                at = beside(self.index, &walks.path, level, south);
+            } else {
+                at = take_up(&walks.later, at.by - 1);
+            }
+            at = go_down(self.nodes, self.index, &mut walks.later, p, at, south);
         }
         walks.left = earn(left, self.live.len() / 2);
         answer_of(self.lines, best, south)
