@@ -16,10 +16,22 @@ use Rattle.path.specs.declared.Spot.{Spot}
 use Rattle.path.specs.Placed.{Placed}
 use Rattle.path.specs.Asked.{left_at, TurnedOff, TurnsOff, Beside}
 use Rattle.path.specs.Ways.{OnPath, turned_up, at_top, turned_off, turns_off}
-use Rattle.column.specs.Asked.{AtLeaf, Down, ground, Walking, GoneDown, TakenUp}
+use Rattle.column.specs.Asked.{AtLeaf, Down, ground, Column, Walking, GoneDown, TakenUp}
 use Rattle.column.specs.Walks.{at_own, at_next, grounded, taken, aside_column}
 use Rattle.lookup.specs.declared.Map.{Map}
-use Rattle.lookup.specs.Asked.{InColumn, Coming, NextIs, none_left, next_is, WalkAsked}
+use Rattle.lookup.specs.Asked.{WalkAsked}
+
+-- at a block of the column, with the blocks put by; they go as far as a block of the path
+pub record InColumn (map : Map) (path later : List ℕ) (d : Bool) (p : Point) (at : Spot) (level : ℕ) : Type 0 where
+  pub side : ℕ
+  pub column : Column map.lines.now map.nodes.now map.listings.now map.index.now later d p at side
+  pub on_path : OnPath map.lines.now map.nodes.now map.listings.now map.index.now path p d level side
+  pub low : level ≤ 14
+
+-- a block that begins at side S: from it the walk goes down to the next leaf
+pub record Coming (map : Map) (path later : List ℕ) (d : Bool) (p : Point) (S : ℕ) (at : Spot) (level : ℕ) : Type 0 where
+  pub stands : InColumn map path later d p at level
+  pub begins : near d (block_of at.block) ≡ S
 
 -- at a leaf, with the best line of what was seen before it
 pub record WalkAt (map : Map) (path later : List ℕ) (d : Bool) (p : Point) (at : Spot) (level : ℕ) (best : Found) : Type 0 where
@@ -69,12 +81,6 @@ module _ {map : Map} {path later : List ℕ} {d : Bool} {p : Point} where
               stands = record { side = far d a.on_path.block; column = aside_column a b.by_is; on_path = record { block = a.on_path.block; path_to = a.on_path.path_to; far_is = refl }; low = omega (arith, h.low, t.most, ap left_at e) };
               begins = a.near_is ∙ there.far_is;
             }
-
-  pub coming : {at r : Spot} {level : ℕ} → NextIs map path later d p at level (Some r) → Coming map path later d p (far d (block_of at.block)) r level
-  coming (next_is c) = c
-
-  pub way_ends : {at : Spot} {level : ℕ} → NextIs map path later d p at level None → far d (block_of at.block) ≡ far d whole_map
-  way_ends (none_left e) = e
 
   module _ {S level : ℕ} {r : Spot} (c : Coming map path later d p S r level) where
     pub coming_walks : length later ≡ 64 → Walking map.nodes.now map.index.now later p r d

@@ -1,5 +1,5 @@
 -- What the functions of the lookup ask, and what their answers say. South (true) or north is the way from the point.
-use Rattle.std.specs.Prelude.{◌≡◌, Option, None, Some, Bool, true, false, List, ℕ, ◌≤◌, get_or}
+use Rattle.std.specs.Prelude.{◌≡◌, Option, None, Some, Bool, true, false, List, ℕ, get_or}
 use Rattle.definitions.specs.declared.Point.{Point}
 use Rattle.definitions.specs.Tables.{live_slots}
 use Rattle.definitions.specs.Lookup.{answer_at}
@@ -10,11 +10,6 @@ use Rattle.path.specs.declared.Spot.{Spot}
 use Rattle.lookup.specs.declared.Map.{Map}
 use Rattle.path.specs.Placed.{Charted}
 use Rattle.path.specs.Asked.{Held}
-use Rattle.path.specs.Ways.{OnPath}
-use Rattle.column.specs.Asked.{Column}
-use Rattle.meaning.specs.Column.{near, far}
-use Rattle.geometry.specs.Means.{block_of}
-use Rattle.definitions.specs.Shape.{whole_map}
 
 -- a charted map, and its live slots
 pub record Ready (map : Map) : Type 0 where
@@ -44,23 +39,6 @@ pub record FoundIs (lines : List ℕ) (d : Bool) (p : Point) (found : Option ℕ
   pub nothing : found ≡ None → BestOn lines d p None
 
 -- ---- A walk
-
--- at a block of the column, with the blocks put by; they go as far as a block of the path
-pub record InColumn (map : Map) (path later : List ℕ) (d : Bool) (p : Point) (at : Spot) (level : ℕ) : Type 0 where
-  pub side : ℕ
-  pub column : Column map.lines.now map.nodes.now map.listings.now map.index.now later d p at side
-  pub on_path : OnPath map.lines.now map.nodes.now map.listings.now map.index.now path p d level side
-  pub low : level ≤ 14
-
--- a block that begins at side S: from it the walk goes down to the next leaf
-pub record Coming (map : Map) (path later : List ℕ) (d : Bool) (p : Point) (S : ℕ) (at : Spot) (level : ℕ) : Type 0 where
-  pub stands : InColumn map path later d p at level
-  pub begins : near d (block_of at.block) ≡ S
-
--- the block after one, or the way ends where the map does
-pub data NextIs (map : Map) (path later : List ℕ) (d : Bool) (p : Point) (at : Spot) (level : ℕ) : Option Spot → Type 0 where
-  none_left : far d (block_of at.block) ≡ far d whole_map → NextIs map path later d p at level None
-  next_is : {r : Spot} → Coming map path later d p (far d (block_of at.block)) r level → NextIs map path later d p at level (Some r)
 
 pub record WalkAsked (map : Map) (p : Point) (path : List ℕ) (own : Spot) : Type 0 where
   pub ready : Ready map

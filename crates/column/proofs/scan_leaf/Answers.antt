@@ -13,15 +13,6 @@ bounds-nodes-node c = let q = c.requires.placed in placed_there q
 pub returns-then-count-eq0 : goal.returns-then-count-eq0
 returns-then-count-eq0 c = record { told = λ q. none_there (cut_length (leaf_cut q c.requires.whole) ∙ sym c.from-count.ensures ∙ c.if-count-eq0.true) c.requires.on_way }
 
-pub bounds-index-node : goal.bounds-index-node
-bounds-index-node c = let q = c.requires.placed in omega (arith, placed_there q, q.chart.room)
-
-pub overflow_add-from : goal.overflow_add-from
-overflow_add-from c = let q = c.requires.placed in omega (arith, (leaf_cut q c.requires.whole).within, c.from-from.ensures, c.from-count.ensures, q.chart.map.few_listings)
-
-pub offset_bounds-listings-from : goal.offset_bounds-listings-from
-offset_bounds-listings-from c = let q = c.requires.placed in omega (arith, (leaf_cut q c.requires.whole).within, c.from-from.ensures, c.from-count.ensures, q.chart.map.few_listings)
-
 pub slice_bounds-scan_slots-end : goal.slice_bounds-scan_slots-end
 slice_bounds-scan_slots-end c = let q = c.requires.placed in omega (arith, (leaf_cut q c.requires.whole).within, c.from-from.ensures, c.from-count.ensures, q.chart.map.few_listings)
 

@@ -6,9 +6,6 @@ use Rattle.scan.specs.Told.{way_map}
 use Rattle.column.proofs.Column.{far_most, none_reached, reach_is}
 use Rattle.column.proofs.settled.Goals as goal
 
-pub line_at-requires : goal.line_at-requires
-line_at-requires c = way_map (rw c.in-Some.is at c.requires.on_way)
-
 pub reaches-requires : goal.reaches-requires
 reaches-requires c = (line_ends (way_map (rw c.in-Some.is at c.requires.on_way)) c.line_at.ensures, record { to_east = omega (arith, c.requires.point.to_east); to_north = omega (arith, c.far_side.ensures, far_most c.args.south (block_of c.args.k) c.requires.north_in) })
 

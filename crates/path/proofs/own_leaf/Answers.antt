@@ -1,7 +1,5 @@
-use mathlib.Core.Path.{refl, ap, ◌∙◌}
-use Prim.Native.Nat.{ℕ}
+use mathlib.Core.Path.{refl, ◌∙◌}
 use native.Mathlib.Omega.{arith}
-use lib.ListN.{get_or}
 use Rattle.path.specs.Placed.{placed_there}
 use Rattle.path.proofs.Steps.{divided, held_top, enters, held_in, in_less}
 use Rattle.path.proofs.own_leaf.Goals as goal
@@ -23,6 +21,3 @@ loop-node-smaller c = in_less (c.loop-node.invariant.0.held c.requires.chart) (d
 
 pub loop-node-preserved : goal.loop-node-preserved
 loop-node-preserved c = let l = c.loop-node.invariant in (record { held = λ h. held_in (l.0.held h) (divided c.args.nodes.now c.loop-node.invariant.2 c.loop-node-test.true) c.go_in-at.ensures }, c.go_in-at.auto.path ∙ l.1, refl)
-
-pub returns : goal.returns
-returns c = let l = c.loop-node.invariant in record { holding = l.0; whole = λ e. c.loop-node-test.false (ap (λ (n : ℕ). get_or c.args.nodes.now n 0) l.2 ∙ e) }

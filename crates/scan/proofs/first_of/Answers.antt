@@ -5,9 +5,6 @@ use Rattle.scan.specs.Told.{way_map}
 use Rattle.scan.proofs.Scans.{eastern, first_is, first_none}
 use Rattle.scan.proofs.first_of.Goals as goal
 
-pub line_at-requires : goal.line_at-requires
-line_at-requires c = way_map (rw c.in-Some.is at c.requires.first)
-
 pub comes_first-requires : goal.comes_first-requires
 comes_first-requires c =
     let f = rw c.in-Some.is at c.requires.first in

@@ -4,16 +4,13 @@ use Rattle.algebra.specs.Lists.{mem_at}
 use Rattle.geometry.specs.Range.{end_corner}
 use Rattle.tables.specs.Rows.{line_ends}
 use Rattle.scan.specs.Asked.{one}
-use Rattle.scan.proofs.Scans.{onward_start, onward_on, onward_counts, onward_aside, onward_end, stand_tells}
+use Rattle.scan.proofs.Scans.{onward_on, onward_counts, onward_aside, onward_end, stand_tells}
 use Rattle.scan.proofs.scan_slots.Goals as goal
 use Rattle.scan.proofs.scan_slots.Goals.{in-Counts, in-Aside}
 
 -- the loop ends where the slots do
 pub returns : goal.returns
 returns c = onward_end c.loop-s.invariant (omega (arith, c.loop-s-test.false))
-
-pub loop-s-init : goal.loop-s-init
-loop-s-init c = onward_start c.requires.on_way
 
 pub line_at-l-requires : goal.line_at-l-requires
 line_at-l-requires c = c.requires.on_map _ (mem_at c.args.slots.now c.loop-s.s-index c.loop-s-test.true)

@@ -13,21 +13,6 @@ use Rattle.walk.proofs.leaf_over.Goals.{After-from-node}
 pub loop-node-init : goal.loop-node-init
 loop-node-init c = (λ t h i. record { tree = t; first = 0; standing = h; indexed = i; same = refl }, there c.requires.walkable.standing, omega arith, omega arith)
 
-pub offset_bounds-nodes-node : goal.offset_bounds-nodes-node
-offset_bounds-nodes-node c = omega arith
-
-pub bounds-nodes-node : goal.bounds-nodes-node
-bounds-nodes-node c = omega arith
-
-pub son_over-son-requires : goal.son_over-son-requires
-son_over-son-requires c = omega arith
-
-pub overflow_mul-entry : goal.overflow_mul-entry
-overflow_mul-entry c = omega arith
-
-pub overflow_add-entry : goal.overflow_add-entry
-overflow_add-entry c = omega (arith, (son_within c.son_over-son.ensures).0)
-
 pub offset_bounds-index-entry : goal.offset_bounds-index-entry
 offset_bounds-index-entry c = omega (arith, (son_within c.son_over-son.ensures).0)
 
@@ -49,21 +34,6 @@ loop-node-smaller c = let w = c.requires in omega (arith, (step c w.walkable.tre
 
 pub loop-node-preserved : goal.loop-node-preserved
 loop-node-preserved c = let w = c.requires in let b = son_within c.son_over-son.ensures in (λ t h i. (step c t h i).1, there (step c w.walkable.tree w.walkable.standing w.indexed).1.standing, omega (arith, b.1), omega (arith, b.2))
-
-pub overflow_mul-node : goal.overflow_mul-node
-overflow_mul-node c = omega arith
-
-pub offset_bounds-index-node : goal.offset_bounds-index-node
-offset_bounds-index-node c = omega arith
-
-pub bounds-index-node : goal.bounds-index-node
-bounds-index-node c = omega arith
-
-pub offset_bounds-nodes-node-2 : goal.offset_bounds-nodes-node-2
-offset_bounds-nodes-node-2 c = omega arith
-
-pub bounds-nodes-node-2 : goal.bounds-nodes-node-2
-bounds-nodes-node-2 c = omega arith
 
 pub returns : goal.returns
 returns c = λ t h i.
