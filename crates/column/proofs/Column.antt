@@ -23,8 +23,8 @@ use Rattle.scan.specs.declared.Scan.{Scan}
 use Rattle.scan.specs.Asked.{Scannable, ScanIs}
 use Rattle.scan.specs.Told.{live_on_map}
 use Rattle.path.specs.declared.Spot.{Spot}
-use Rattle.path.specs.Asked.{SonIs, is_upper, is_lower, Stacked, Entered}
-use Rattle.path.specs.Seats.{leaf_cut, Halves, halves, above_ground, Son, son_at, entered, entries_kept}
+use Rattle.path.specs.Asked.{SonIs, is_upper, is_lower, Stacked}
+use Rattle.path.specs.Seats.{leaf_cut, Halves, halves, Son, son_at, entries_kept}
 use Rattle.column.specs.Asked.{PutBy, ground, next, Column, GoneOn, Walking, Came, LeafAsked, LeafTold}
 
 -- ---- What is put by is kept by writes after it
@@ -48,9 +48,6 @@ order true t (is_upper e) (is_lower f) = record { begins = ap (near true) e ∙ 
 order false t (is_lower e) (is_upper f) = record { begins = ap (near false) e ∙ t.bottom; meets = ap (near false) f ∙ sym t.seam ∙ sym (ap (far false) e); ends = ap (far false) f ∙ t.top }
 
 module _ {lines nodes listings index later : List ℕ} {d : Bool} {p : Point} {at : Spot} {T : ℕ} (h : Column lines nodes listings index later d p at T) where
-  pub enters : get_or nodes at.node 0 ≡ 65535 → length later ≡ 64 → Entered index later at
-  enters e l = entered h.placed (omega (arith, h.few, above_ground h.placed e)) l
-
   module _ {later' : List ℕ} {r : Spot} (e : get_or nodes at.node 0 ≡ 65535) (g : GoneOn index p at d later later' r) where
     abbrev two : Halves h.placed g.which g.above g.below
     two = halves h.placed e g.strip
@@ -80,9 +77,6 @@ module _ {lines nodes listings index later : List ℕ} {d : Bool} {p : Point} {a
 -- ---- From spot to spot
 
 module _ {nodes index : List ℕ} {d : Bool} {p : Point} where
-  pub came_here : {later : List ℕ} {at : Spot} → Came nodes index p at d later later at
-  came_here = record { stands = λ h. h; near_is = refl }
-
   pub came_on : {later₀ later later' : List ℕ} {at₀ at r : Spot} → Came nodes index p at₀ d later₀ later at → Walking nodes index later p at d → get_or nodes at.node 0 ≡ 65535 → GoneOn index p at d later later' r → Came nodes index p at₀ d later₀ later' r
   came_on c w e g = record { stands = λ h. into (c.stands h) e g; near_is = begins w.column e g ∙ c.near_is }
 
