@@ -1,13 +1,15 @@
 -- The laws of the words for lists: filters, numbers in a row, padding, and a list laid over another.
-use Rattle.std.specs.Prelude.{◌≡◌, ◌⊎◌, ◌↔◌, Bool, ℕ, zero, suc, ◌+◌, ◌-◌, ◌≤◌, ◌<◌, eqb, take, get_or, set, replicate}
-use Rattle.std.proofs.Math.Path.{refl, sym, ap}
+use Rattle.std.specs.Prelude.{◌≡◌, ◌⊎◌, ◌↔◌, Bool, ◌&&◌, ℕ, zero, suc, ◌+◌, ◌-◌, ◌≤◌, ◌<◌, eqb, take, get_or, set, replicate}
+use Rattle.std.proofs.Math.Path.{refl, sym, ap, subst}
 use Rattle.std.proofs.Common.{◌∙◌, inl, inr, add-zero, suc-add, add-suc, add-one, drop_of_length-le, length-append, take-suc, take-take, length-take-le, drop-set-lt, eqb-true, eq-eqb}
+use Rattle.std.specs.List.{list_all}
 use Rattle.std.proofs.Math.Bool.{true, false}
 use mathlib.Core.List.Memᴰ
 use mathlib.Core.List.{List, [], ◌∷◌, ◌++◌, append-nil, Memᴰ}
 use native.Mathlib.Omega.{arith}
 use Rattle.std.proofs.Math.Decide.{dec_le}
 use Rattle.std.proofs.Math.ListN.{length, drop}
+use Rattle.std.proofs.lemmas.Grind.{get_or_default_zero}
 use Rattle.std.proofs.lemmas.List.{length-replicate, drop-append-le, take-set-le}
 use Rattle.std.proofs.Math.Seq.{slice, sets-eq, take-append_seam, drop-append_seam, take-nil, length-sets, take-set-lt}
 use Rattle.algebra.specs.Words.{those, every, up_from, Rising, none, one, same_list, padded, over}
@@ -70,6 +72,16 @@ module _ {A : Type 0} (p : A → Bool) where
   unfolding every
   every← [] f = refl
   every← (a ∷ more) f = every_yes a more (f a (Memᴰ.head refl)) ∙ every← more (λ x m. f x (Memᴰ.tail m))
+
+  -- the library's word for it, by which the contract of `all` speaks
+  pub every_all : (xs : List A) → list_all p xs ≡ every p xs
+  unfolding every
+  every_all [] = refl
+  every_all (x ∷ xs) = go (p x) (every_all xs)
+    where
+      go : (t : Bool) {a b : Bool} → a ≡ b → t && a ≡ elim t [ true ↦ b | false ↦ false ]
+      go true e = e
+      go false e = refl
 
 module _ {A : Type 0} (q : A → Bool) where
   pub cons_those : (x : A) (xs ys : List A) → those q xs ≡ those q ys → those q (x ∷ xs) ≡ those q (x ∷ ys)
@@ -309,3 +321,7 @@ pub mem_at : (l : List ℕ) (i : ℕ) → i < length l → Memᴰ (get_or l i 0)
 mem_at [] i h = absurd (omega arith)
 mem_at (x ∷ l) zero h = Memᴰ.head refl
 mem_at (x ∷ l) (suc i) h = Memᴰ.tail (mem_at l i (omega arith))
+
+-- of an element read with itself for what lies past the end
+pub mem_place : (l : List ℕ) (i : ℕ) {x : ℕ} → i < length l → x ≡ get_or l i x → Memᴰ x l
+mem_place l i {x} h e = subst (λ y. Memᴰ y l) (sym (e ∙ get_or_default_zero l i x h)) (mem_at l i h)

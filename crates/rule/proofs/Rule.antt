@@ -167,20 +167,6 @@ module _ (k : Block) (l : Line) (ha : inside k l.a ≡ false) (hb : inside k l.b
       go (inr n) = let h = n.one in let e = ap length two in omega arith
 
 -- ---- the slots, one after another
-pub mem_place : (l : List ℕ) (i : ℕ) {x : ℕ} → i < length l → x ≡ get_or l i x → Memᴰ x l
-mem_place [] i h e = absurd (omega arith)
-mem_place (y ∷ l) zero h e = Memᴰ.head e
-mem_place (y ∷ l) (suc i) h e = Memᴰ.tail (mem_place l i (omega arith) e)
-
-pub every_all : (p : ℕ → Bool) (l : List ℕ) → list_all p l ≡ every p l
-unfolding every
-every_all p [] = refl
-every_all p (x ∷ l) = go (p x) (every_all p l)
-  where
-    go : (t : Bool) {a b : Bool} → a ≡ b → t && a ≡ elim t [ true ↦ b | false ↦ false ]
-    go true e = e
-    go false e = refl
-
 pub hangs_is : (k : Block) (v : Point) {lines : List ℕ} {s : ℕ} {r : code.Line} → IsLine lines s r → hangs k v (line_of r) ≡ hangs_at lines k v s
 unfolding hangs_at hangs
 hangs_is k v {lines} {s} {r} e = λ i. hangs k v (record { slot = 0; a = e.a_is i; b = e.b_is i })

@@ -4,7 +4,8 @@ use Rattle.std.proofs.lemmas.Iterator.{YieldsList-from_slice}
 use Rattle.std.proofs.lemmas.Iterator.Adapters.{serves_from_places}
 use Rattle.std.proofs.lemmas.Iterator.Search.{all_from_yields_List}
 use Rattle.leaves.specs.Sides.{ends_at}
-use Rattle.leaves.proofs.Turns.{good_in, parts, every_all}
+use Rattle.leaves.proofs.Turns.{good_in, parts}
+use Rattle.algebra.specs.Lists.{every_all}
 use Rattle.leaves.proofs.Fan.{ends_told}
 use Rattle.leaves.proofs.all_end_at.Goals as goal
 

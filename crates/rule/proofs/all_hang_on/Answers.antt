@@ -5,7 +5,8 @@ use Rattle.std.proofs.lemmas.Iterator.Adapters.{serves_from_places}
 use Rattle.std.proofs.lemmas.Iterator.Search.{all_from_yields_List}
 use Rattle.geometry.specs.Means.{block_of}
 use Rattle.rule.specs.Rule.{hangs_at}
-use Rattle.rule.proofs.Rule.{mem_place, every_all, hangs_told}
+use Rattle.algebra.specs.Lists.{every_all, mem_place}
+use Rattle.rule.proofs.Rule.{hangs_told}
 use Rattle.rule.proofs.all_hang_on.Goals as goal
 
 pub all-requires-clause-callable : goal.all-requires-clause-callable
