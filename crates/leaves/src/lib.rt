@@ -14,7 +14,7 @@ ghost use Rattle.leaves.specs.Pass.{clear_of, leaf_apart, Good, TreeUsed};
 
 use definitions::{Half, Point};
 use geometry::{Line, conflict, ends_at, left, same_point, turn};
-use tables::line_at;
+use tables::{Lent, line_at};
 
 // To test the pairs of fewer lines costs less than to part them.
 const FEW: usize = 12;
@@ -192,16 +192,16 @@ pub fn leaf_conflicts(lines: &[u16], slots: &[u16]) -> bool
 }
 
 // Two live lines conflict. One pass over what the tree uses of its two tables; a leaf of 0 or 1 lines needs no test.
-pub fn conflicts_in_leaves(lines: &[u16], nodes: &[u16], listings: &[u16], used: usize) -> bool
-    requires { TreeUsed lines.now nodes.now listings.now used }
-    ensures { result ≡ not (none_conflict lines.now) }
+pub fn conflicts_in_leaves(t: Lent, used: usize) -> bool
+    requires { TreeUsed t.lines.now t.nodes.now t.listings.now used }
+    ensures { result ≡ not (none_conflict t.entry.lines.now) }
 {
-    let mut rest = listings;
-    for &node in &nodes[..used] {
+    let mut rest = t.listings;
+    for &node in &t.nodes[..used] {
         let n = usize::from(node);
         if n != DIVIDED {
             let (leaf, others) = rest.split_at(n);
-            if ALONE < n && leaf_conflicts(lines, leaf) {
+            if ALONE < n && leaf_conflicts(t.lines, leaf) {
                 return true;
             }
             rest = others;

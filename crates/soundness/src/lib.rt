@@ -27,7 +27,7 @@ fn built_same(t: Lent, built: &mut [u16], named: &mut [u16]) -> bool
     if !same(t.listings, named) {
         return false;
     }
-    !conflicts_in_leaves(t.lines, t.nodes, t.listings, end.node)
+    !conflicts_in_leaves(t, end.node)
 }
 
 fn trees_sound(t: Lent) -> bool

@@ -41,12 +41,6 @@ pub fn lengths_fit(lines: &[u16], nodes: &[u16], listings: &[u16]) -> bool
     (n % 8 == 0) & (8 <= n) & (n <= 8192) & (1 <= m) & (m <= 16384) & (listings.len() <= 16384)
 }
 
-pub fn wide(n: u16) -> usize
-    ensures { result ≡ n }
-{
-    usize::from(n)
-}
-
 // The 8 entries of a slot.
 #[derive(Clone, Copy, Default)]
 pub struct Row {

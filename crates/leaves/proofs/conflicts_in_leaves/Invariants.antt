@@ -3,4 +3,4 @@ use Rattle.leaves.proofs.Ahead.{Ahead}
 use Rattle.leaves.proofs.conflicts_in_leaves.Given as goal
 
 abbrev pub invariant-loop-node : goal.invariant-loop-node
-invariant-loop-node l = Ahead l.lines l.nodes l.used l.node-index l.rest
+invariant-loop-node l = Ahead l.t.lines.now l.t.nodes.now l.used l.node-index l.rest
