@@ -11,7 +11,7 @@ use Rattle.definitions.specs.Shape.{whole_map}
 use Rattle.geometry.specs.Means.{block_of}
 use Rattle.geometry.specs.Range.{End}
 use Rattle.meaning.specs.Found.{Found}
-use Rattle.meaning.specs.Column.{far}
+use Rattle.meaning.specs.Column.{near, far}
 use Rattle.path.specs.declared.Spot.{Spot}
 use Rattle.path.specs.Placed.{Placed}
 use Rattle.path.specs.Asked.{left_at, TurnedOff, TurnsOff, Beside}
