@@ -36,7 +36,7 @@ printf '%-11s %-12s %12s %12s %12s %12s %8s\n' map window call scan walk indexed
 for map in fields1000 fences fans hub1000; do
   for window in window2000 window8000 windowall; do
     call=$(counted boundary_map_window library $window $map)
-    scan=$((call - $(counted soundness::is_sound library $window $map)))
+    scan=$((call - $(counted soundness::check library $window $map)))
     walk=$(counted window_walk walk $window $map)
     indexed=$(counted window_indexed indexed $window $map)
     printf '%-11s %-12s %12d %12d %12d %12d %8s\n' $map $window "$call" "$scan" "$walk" "$indexed" \

@@ -8,6 +8,7 @@ ghost use Rattle.candidates.specs.Spread.{Spreadable, Spread};
 use geometry::{Block, sons_met};
 use tables::line_at;
 
+// stays: places in one list of slots and not lists of their own, since there is no heap.
 // Candidates: the slots from..to of a list of slots, which is free from `free` on.
 #[derive(Clone, Copy)]
 pub struct Span {

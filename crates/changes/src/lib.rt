@@ -16,6 +16,8 @@ use tables::{
 };
 use tree::build;
 
+// stays: three slices. A struct of three &mut would owe of each function, for each field, that the borrow lent back is the one lent.
+
 // The tables with a slot's row put in place, if there is room for the tree; else they are as they were.
 fn put_line(
     lines: &mut [u16],
@@ -41,6 +43,7 @@ fn put_line(
     true
 }
 
+// stays: beside soundness::trees_sound. What each does with its two arrays asks and answers other things, and a closure over both would owe more than they say.
 fn put_if_room(
     lines: &mut [u16],
     nodes: &mut [u16],

@@ -63,6 +63,7 @@ pub enum Refusal {
 pub type Answer = Result<u32, Refusal>;
 
 // What show leaf tells: the leaf's side and south-west corner in half-steps, all 0 on refusal.
+// stays: the three numbers beside the answer. `not_shown` says that a refusal tells them as 0.
 #[derive(Clone, Copy)]
 pub struct Shown {
     pub answer: Answer,

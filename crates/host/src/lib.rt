@@ -15,6 +15,7 @@ use definitions::{Answer, Given, Refusal, Window};
 const REFUSAL: u64 = 4294967296;
 
 // refusal x 4,294,967,296 + detail
+// stays: the refusals' numbers, which C reads. No From of a Result can stand here, where neither of the two types is declared.
 pub fn number(answer: Answer) -> u64
     ensures { result ≡ number_of answer }
 {

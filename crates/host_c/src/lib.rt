@@ -1,4 +1,5 @@
 // What C calls: the six exports of the static library. Each has the name, the parameters and the clauses of the function of `host` that it calls.
+// stays: host once more. A crate is a library or a static library, and the programs need host as a library.
 #![tactic(auto)]
 
 ghost use Rattle.std.specs.Prelude.{◌≡◌};

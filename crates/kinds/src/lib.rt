@@ -50,6 +50,7 @@ pub fn conflict_detail(lines: &[u16], s: usize, g: Given) -> u32
     requires { OnMap lines.now s × (s ≤ 1023) × (all_on_grid g ≡ true) }
     ensures { result ≡ conflict_detail lines.now s g }
 {
+    // stays: `as`. A slot fits, and try_from would bring an error that cannot happen.
     let k = kind_of(line_at(lines, s as u16), line_of(g.x1, g.y1, g.x2, g.y2));
     kind_number(k) * 65536 + (s as u32)
 }

@@ -1,4 +1,5 @@
 // The public calls: start, insert, delete, locate, show leaf and window. None has a requires.
+// stays: three slices in each call, as C lends them and as host/proofs/Promised states each call.
 #![tactic(auto)]
 
 ghost use Rattle.std.specs.Prelude.{◌≡◌};

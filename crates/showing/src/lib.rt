@@ -23,6 +23,7 @@ fn leaf_of(nodes: &[u16], x: u16, y: u16) -> Leaf
 }
 
 // The leaf that holds a grid point, or the refusal.
+// stays: three slices, as its two callers are lent them; it hands them on once.
 pub fn leaf_asked(
     lines: &[u16],
     nodes: &[u16],

@@ -49,6 +49,7 @@ pub fn is_sound(t: Lent) -> bool
 }
 
 // What every call but start asks of the lent tables first: refusal 1 or 2, or nothing.
+// stays: three slices, as the calls are lent them; from here down they are one value.
 pub fn check(lines: &[u16], nodes: &[u16], listings: &[u16]) -> Result<(), Refusal>
     ensures { result ≡ checked base_rule (tables lines.entry.now nodes.now listings.now) }
 {

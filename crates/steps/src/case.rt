@@ -74,6 +74,7 @@ impl<R: Print + Drop> Case<R> {
     }
 
     // A call that only reads it.
+    // stays: beside `call`. One lends what it may write and the other what it may read, and no type stands for both.
     fn ask<F>(&self, ask: F) -> io::Result<()>
     where
         F: FnOnce(&[u16], &[u16], &[u16]) -> u64,

@@ -93,6 +93,7 @@ pub fn put_row(lines: &mut [u16], slot: usize, row: Row)
 }
 
 // The row of a line that insert is given.
+// stays: no From, since a row is made of two things.
 pub fn row_of(g: Given, generation: u16) -> Row
     ensures { result ≡ row_of g generation }
 {
@@ -191,6 +192,7 @@ pub fn line_at(lines: &[u16], slot: u16) -> Line
 }
 
 // A handle is the slot x 65,536 + the generation.
+// stays: a number, which C keeps and hands back, taken apart by two functions and made by one; `as`, since each part fits.
 pub fn slot_of(handle: u32) -> usize
     ensures { result ≡ handle / 65536 }
 {
@@ -237,6 +239,7 @@ pub fn gather<F: Fn(Row) -> bool>(lines: &[u16], to: &mut [u16], test: F) -> usi
     let mut count = 0;
     for s in 0..lines.len() / 8 {
         if test(row_at(lines, s)) {
+            // stays: `as`, since a slot fits; and the count beside `to`, whose front and rest `Front` speaks of.
             to[count] = s as u16;
             count += 1;
         }

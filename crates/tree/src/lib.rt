@@ -12,6 +12,7 @@ use rule::left_whole;
 use tables::{Place, copy, live_slots};
 
 // What the node table has for a divided block.
+// stays: a constant of its own in three crates. An edit turns it in one of them, where the fact is.
 const DIVIDED: u16 = 65535;
 
 // Each build gives the next free places, or None where one of the tables is too short.

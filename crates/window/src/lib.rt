@@ -112,5 +112,6 @@ pub fn list_window(lines: &[u16], w: Window, slots: &mut [u16]) -> Answer
         return Err(Refusal::ListShort);
     }
     copy(&found[..n], slots);
+    // stays: `as`, since a count of slots fits.
     Ok(n as u32)
 }
