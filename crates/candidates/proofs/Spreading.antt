@@ -15,7 +15,7 @@ use Rattle.definitions.specs.Shape.{Block, nw_of, ne_of, sw_of, se_of, meets}
 use Rattle.definitions.specs.Tables.{line_at}
 use Rattle.meaning.specs.Rules.{meets_ends}
 use Rattle.geometry.specs.declared.Line.{Line}
-use Rattle.geometry.specs.declared.Met.{Met}
+use Rattle.geometry.specs.declared.Sons.{Sons}
 use Rattle.geometry.specs.Means.{line_of, SonsAsked, SonsMet}
 use Rattle.tables.specs.Rows.{OnMap, IsLine, line_ends}
 use Rattle.candidates.specs.declared.Span.{Span}
@@ -150,7 +150,7 @@ module _ {lines s₀ : List ℕ} {c : Span} {kb : Block} (asked : Spreadable lin
       pub sons_asked : SonsAsked kb (line_of r)
       sons_asked = record { wide = asked.wide; tall = asked.tall; ends = line_ends (asked.on_map v among) e; even = asked.even; met = meets_ends kb (line_of r) (line_at lines v) (e.a_is, e.b_is) ∙ asked.met v among }
 
-      module _ (m : Met) (q : SonsMet kb (line_of r) m.nw m.ne m.sw m.se) where
+      module _ (m : Sons Bool) (q : SonsMet kb (line_of r) m.nw m.ne m.sw m.se) where
         pub turned_on : Turned lines kb c.from c.to c.free n s₀ (put4 slots v nw ne sw se) (nw + from_bool m.nw) (ne + from_bool m.ne) (sw + from_bool m.sw) (se + from_bool m.se) (i + 1)
         turned_on =
             record {

@@ -7,7 +7,7 @@ use Rattle.definitions.specs.Shape.{Block, nw_of, ne_of, sw_of, se_of, meets}
 use Rattle.definitions.specs.Tables.{line_at}
 use Rattle.tables.specs.Rows.{OnMap}
 use Rattle.candidates.specs.declared.Span.{Span}
-use Rattle.candidates.specs.declared.Spans.{Spans}
+use Rattle.geometry.specs.declared.Sons.{Sons}
 
 unfoldable pub meets_at : List ℕ → Block → ℕ → Bool
 meets_at lines k s = meets k (line_at lines s)
@@ -33,7 +33,7 @@ pub record Son (free m : ℕ) (want slots : List ℕ) (c : Span) : Type 0 where
 abbrev pub SonOf : List ℕ → Block → Span → List ℕ → List ℕ → Span → Type 0
 SonOf lines k c slots slots' r = Son c.free (c.to - c.from) (those (meets_at lines k) (slice c.from c.to slots)) slots' r
 
-pub record Spread (lines : List ℕ) (k : Block) (c : Span) (slots slots' : List ℕ) (r : Spans) : Type 0 where
+pub record Spread (lines : List ℕ) (k : Block) (c : Span) (slots slots' : List ℕ) (r : Sons Span) : Type 0 where
   pub below : take c.free slots' ≡ take c.free slots
   pub nw : SonOf lines (nw_of k) c slots slots' r.nw
   pub ne : SonOf lines (ne_of k) c slots slots' r.ne

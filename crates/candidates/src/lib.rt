@@ -5,7 +5,7 @@ ghost use Rattle.std.specs.Prelude.{◌≡◌};
 ghost use Rattle.geometry.specs.Means.{block_of};
 ghost use Rattle.candidates.specs.Spread.{Spreadable, Spread};
 
-use geometry::{Block, sons_met};
+use geometry::{Block, Sons, sons_met};
 use tables::line_at;
 
 // stays: places in one list of slots and not lists of their own, since there is no heap.
@@ -25,18 +25,9 @@ impl Span {
     }
 }
 
-// The candidates of the four sons.
-#[derive(Clone, Copy)]
-pub struct Spans {
-    pub nw: Span,
-    pub ne: Span,
-    pub sw: Span,
-    pub se: Span,
-}
-
 // Each candidate put to the lists of the sons that it meets, each list having room for all.
 // It is written to all four lists; those of sons that it misses do not grow, so the next overwrites it.
-pub fn spread(lines: &[u16], slots: &mut [u16], c: Span, k: Block) -> Spans
+pub fn spread(lines: &[u16], slots: &mut [u16], c: Span, k: Block) -> Sons<Span>
     requires { Spreadable lines.now slots.old c (block_of k) }
     ensures { Spread lines.now (block_of k) c slots.old slots.new result }
 {
@@ -49,6 +40,7 @@ pub fn spread(lines: &[u16], slots: &mut [u16], c: Span, k: Block) -> Spans
     let mut ne = second;
     let mut sw = third;
     let mut se = fourth;
+    // stays: by place, since the list that is gone over is written too.
     for i in c.from..c.to {
         let s = slots[i];
         let m = sons_met(k, line_at(lines, s));
@@ -62,7 +54,7 @@ pub fn spread(lines: &[u16], slots: &mut [u16], c: Span, k: Block) -> Spans
         se += usize::from(m.se);
     }
     let free = fourth + n;
-    Spans {
+    Sons {
         nw: Span::new(first, nw, free),
         ne: Span::new(second, ne, free),
         sw: Span::new(third, sw, free),

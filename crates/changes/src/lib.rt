@@ -16,8 +16,7 @@ use tables::{
 };
 use tree::build;
 
-// stays: three slices. A struct of three &mut would owe of each function, for each field, that the borrow lent back is the one lent.
-
+// stays: three slices, here and below. Of a struct of three `&mut` each function would have to promise, for each field, that the borrow it leaves is the one it was lent.
 // The tables with a slot's row put in place, if there is room for the tree; else they are as they were.
 fn put_line(
     lines: &mut [u16],
@@ -43,7 +42,7 @@ fn put_line(
     true
 }
 
-// stays: beside soundness::trees_sound. What each does with its two arrays asks and answers other things, and a closure over both would owe more than they say.
+// stays: beside soundness::trees_sound, whose two arrays are cut alike. One asks `Room` and writes what is lent, the other asks `Slotted` and only reads.
 fn put_if_room(
     lines: &mut [u16],
     nodes: &mut [u16],
@@ -55,6 +54,7 @@ fn put_if_room(
     ensures { Put base_rule (tables lines.old nodes.old listings.old) (with_slot lines.old slot (entries_of row))
         (tables lines.new nodes.new listings.new) result }
 {
+    // stays: two arrays, since there is no heap.
     let mut built = [0u16; 16384];
     let mut named = [0u16; 16384];
     let n = nodes.len();

@@ -33,7 +33,7 @@ pub fn kind_of(l: Line, m: Line) -> Kind
     Kind::Touching
 }
 
-// stays: the numbers stand here, and not with Kind's variants. Two variants of one number, which an edit tries, would not compile.
+// stays: numbers, which C reads. With Kind's variants two of one number would not compile, which the edit overlap_numbered_as_same tries; a From could stand only where Kind is declared, and no function does.
 pub fn kind_number(k: Kind) -> u32
     ensures { (result ≡ kind_number k) × (result ≤ 4) }
 {

@@ -14,7 +14,7 @@ ghost use Rattle.leaves.specs.Pass.{clear_of, leaf_apart, Good, TreeUsed};
 
 use definitions::{Half, Point};
 use geometry::{Line, conflict, ends_at, left, same_point, turn};
-use tables::{Lent, line_at};
+use tables::{DIVIDED, Lent, line_at};
 
 // To test the pairs of fewer lines costs less than to part them.
 const FEW: usize = 12;
@@ -22,15 +22,11 @@ const FEW: usize = 12;
 // Each level has its own array on the stack; what is left whole below the last is tested pair by pair.
 const DEPTH: u16 = 12;
 
-// What the node table has for a divided block.
-const DIVIDED: usize = 65535;
-
 // A leaf of so many lines needs no test.
 const ALONE: usize = 1;
 
-// stays: lines and slots as parameters: tried as a struct, where each ensures says leaf.entry.lines.now, and each part of the slots is a literal.
-
 // l conflicts with the line of one of the slots.
+// stays: lines and slots as parameters, here and below. Tried as a struct: each part of the slots that is handed on is then a literal of five lines.
 pub fn conflicts_with(lines: &[u16], slots: &[u16], l: Line) -> bool
     requires { Good lines.now slots.now × (same_point l.a l.b ≡ false) × LineEnds (line_of l) }
     ensures { result ≡ not (clear_of lines.now (line_of l) slots.now) }
@@ -167,6 +163,7 @@ pub fn side_conflicts(
     requires { Fan lines.now v slots.now × End w }
     ensures { result ≡ not (leaf_apart lines.now (those (on_side lines.now v w side) slots.now)) }
 {
+    // stays: an array, since there is no heap.
     let mut kept = [0u16; 1024];
     let n = keep(lines, slots, &mut kept, v, w, side);
     fan_conflicts(lines, &kept[..n], v, depth)
@@ -196,10 +193,11 @@ pub fn conflicts_in_leaves(t: Lent, used: usize) -> bool
     requires { TreeUsed t.lines.now t.nodes.now t.listings.now used }
     ensures { result ≡ not (none_conflict t.entry.lines.now) }
 {
+    let mark = usize::from(DIVIDED);
     let mut rest = t.listings;
     for &node in &t.nodes[..used] {
         let n = usize::from(node);
-        if n != DIVIDED {
+        if n != mark {
             let (leaf, others) = rest.split_at(n);
             if ALONE < n && leaf_conflicts(t.lines, leaf) {
                 return true;

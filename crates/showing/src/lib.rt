@@ -17,6 +17,7 @@ fn leaf_of(nodes: &[u16], x: u16, y: u16) -> Leaf
     requires { Walkable nodes.now 65536 0 0 × (x ≤ 16383) × (y ≤ 16383) }
     ensures { (t : Tree) → Standing nodes.now t 0 0 → LeafOver (grid_point x y) t result }
 {
+    // stays: an array, since there is no heap.
     let mut index = [0u16; 65536];
     index_nodes(nodes, &mut index);
     leaf_over(nodes, &index, point_of(x, y))

@@ -34,6 +34,7 @@ fn trees_sound(t: Lent) -> bool
     requires { Slotted t.lines.now t.nodes.now t.listings.now }
     ensures { result ≡ sound base_rule (read t.entry) }
 {
+    // stays: two arrays, since there is no heap.
     let mut made_nodes = [0u16; 16384];
     let mut made_listings = [0u16; 16384];
     let n = t.nodes.len();

@@ -18,6 +18,9 @@ ghost use Rattle.tables.specs.Sound.{hinders_at, Tested};
 use definitions::Given;
 use geometry::{Line, conflict, line_of, on_grid};
 
+// The entry of a divided block in the node table; a leaf's is the number of its listings.
+pub const DIVIDED: u16 = 65535;
+
 // The next free places of the node table and the listing table.
 #[derive(Clone, Copy)]
 pub struct Place {
@@ -60,6 +63,7 @@ pub fn row_at(lines: &[u16], slot: usize) -> Row
 {
     let i = 8 * slot;
     let e = i + 8;
+    // stays: entry by entry, as `row_at` of the definitions reads them.
     let r = &lines[i..e];
     Row {
         live: r[0],
@@ -177,6 +181,7 @@ pub fn slot_sound(row: Row) -> bool
     }
 }
 
+// stays: no From, which can ask for nothing: a row may hold what is off the grid.
 pub fn line_of_row(row: Row) -> Line
     requires { (row.x1 ≤ 16383) × (row.y1 ≤ 16383) × (row.x2 ≤ 16383) × (row.y2 ≤ 16383) }
     ensures { (result.a ≡ grid_point row.x1 row.y1) × (result.b ≡ grid_point row.x2 row.y2) }
@@ -224,6 +229,7 @@ pub fn known(lines: &[u16], handle: u32) -> bool
     is_live(row) & (row.generation == generation_of(handle))
 }
 
+// stays: over the numbers of the slots, by which `slots_of` and every law of them speak, and not over chunks of the table.
 pub fn slots_sound(lines: &[u16]) -> bool
     ensures { result ≡ every (slot_sound lines.now) (slots_of lines.now) }
 {
@@ -248,6 +254,7 @@ pub fn gather<F: Fn(Row) -> bool>(lines: &[u16], to: &mut [u16], test: F) -> usi
 }
 
 // The live slots, rising, at the front of `to`, and how many.
+// stays: the count beside `to`, as in `gather`.
 pub fn live_slots(lines: &[u16], to: &mut [u16]) -> usize
     requires { (length lines.now ≤ 8192) × (length lines.now ≤ 8 * length to.old) }
     ensures { Front (live_slots lines.now) to.old to.new result }
@@ -256,6 +263,7 @@ pub fn live_slots(lines: &[u16], to: &mut [u16]) -> usize
 }
 
 // The lowest slot whose row passes the test.
+// stays: a `for`. Tried with `find`: that the closure around the test may be called (`find-requires`) did not close.
 fn first_slot<F: Fn(Row) -> bool>(lines: &[u16], test: F) -> Option<usize>
     requires { Asked (F.pre test) lines.now }
     ensures { (p : ℕ → Bool) → Tells (F.post test) lines.now p → result ≡ first_slot_of (those p (slots_of lines.now)) }

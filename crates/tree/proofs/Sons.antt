@@ -22,7 +22,7 @@ use Rattle.tables.specs.declared.Place.{Place}
 use Rattle.geometry.specs.declared.Block as code
 use Rattle.geometry.specs.Means.{block_of}
 use Rattle.candidates.specs.declared.Span.{Span}
-use Rattle.candidates.specs.declared.Spans.{Spans}
+use Rattle.geometry.specs.declared.Sons.{Sons}
 use Rattle.std.specs.Prelude.{Option, Some, None}
 use Rattle.candidates.specs.Spread.{meets_at, Spreadable, Spread, SonOf}
 use Rattle.rule.specs.Rule.{left_whole, Candidates}
@@ -202,7 +202,7 @@ module _ {lines w₀ : List ℕ} {c : Span} {k : Block} {n : ℕ} {at : Place} {
     pub of_tree : OfTree (son_block i k) n
     pub son : SonOf lines (son_block i k) c w₀ w₁ p.0
 
-  pub son_at : {w₁ : List ℕ} {spans : Spans} → Spread lines k c w₀ w₁ spans → (nw ne sw se : code.Block) → block_of nw ≡ nw_of k → block_of ne ≡ ne_of k → block_of sw ≡ sw_of k → block_of se ≡ se_of k
+  pub son_at : {w₁ : List ℕ} {spans : Sons Span} → Spread lines k c w₀ w₁ spans → (nw ne sw se : code.Block) → block_of nw ≡ nw_of k → block_of ne ≡ ne_of k → block_of sw ≡ sw_of k → block_of se ≡ se_of k
       → (i : ℕ) → i < 4 → (d : Span × code.Block) → SonAt w₁ i (get_or ((spans.nw, nw) ∷ (spans.ne, ne) ∷ (spans.sw, sw) ∷ (spans.se, se) ∷ []) i d)
   son_at r nw ne sw se a b e f zero h d = record { is = a; of_tree = nw_of_tree ready.of_tree; son = r.nw }
   son_at r nw ne sw se a b e f (suc zero) h d = record { is = b; of_tree = ne_of_tree ready.of_tree; son = r.ne }
@@ -262,7 +262,7 @@ module _ {lines w₀ : List ℕ} {c : Span} {k : Block} {n : ℕ} {at : Place} {
             listings_kept = kt ∙ so.listings_kept;
           }
 
-  module _ {w₁ : List ℕ} {spans : Spans} (spread : Spread lines k c w₀ w₁ spans) {s t s₁ t₁ w : List ℕ} {x : Option Place} where
+  module _ {w₁ : List ℕ} {spans : Sons Span} (spread : Spread lines k c w₀ w₁ spans) {s t s₁ t₁ w : List ℕ} {x : Option Place} where
     -- all of them
     pub sons_grown : {i : ℕ} → i ≡ 4 → SoFar lines w₀ c k n at w₁ s t i s₁ t₁ w x → Grown (sons_nodes lines cs n k) (sons_listings lines cs n k) at s t s₁ t₁ c.free w₀ w x
     unfolding sons_nodes sons_listings

@@ -9,15 +9,9 @@ ghost use Rattle.tree.specs.Builds.{GoodTable, Ready, BuiltIs, Grown, block_node
 use candidates::{Span, spread};
 use geometry::{Block, north_east, north_west, south_east, south_west, whole_map};
 use rule::left_whole;
-use tables::{Place, copy, live_slots};
-
-// What the node table has for a divided block.
-// stays: a constant of its own in three crates. An edit turns it in one of them, where the fact is.
-const DIVIDED: u16 = 65535;
+use tables::{DIVIDED, Place, copy, live_slots};
 
 // Each build gives the next free places, or None where one of the tables is too short.
-
-// stays: slots, nodes and listings as parameters: a struct of three &mut would be lent anew at each call, with starred clauses for what it leaves.
 
 // A leaf, where the node table has room for its node.
 pub fn put_leaf(slots: &[u16], nodes: &mut [u16], listings: &mut [u16], at: Place) -> Option<Place>
@@ -40,6 +34,7 @@ pub fn put_leaf(slots: &[u16], nodes: &mut [u16], listings: &mut [u16], at: Plac
     Some(next)
 }
 
+// stays: slots, nodes and listings as parameters, here and below. Of a struct of three `&mut` each function would have to promise, for each field, that the borrow it leaves is the one it was lent.
 // The tree of a block with these candidates. A block at level n has side 2 x 2^n.
 #[cycle(build_block_build_sons)]
 pub fn build_block(
@@ -114,6 +109,7 @@ pub fn build(lines: &[u16], nodes: &mut [u16], listings: &mut [u16]) -> Option<P
     requires { GoodTable lines.now }
     ensures { TreeBuilt lines.now nodes.old listings.old nodes.new listings.new result }
 {
+    // stays: one array for all levels, since there is no heap.
     // 57 x 1,024: the live slots, and the lists of four sons at each of 14 levels.
     let mut slots = [0u16; 58368];
     let n = live_slots(lines, &mut slots);

@@ -75,6 +75,7 @@ fn area_in(w: Window) -> Area
     requires { window_fits w ≡ true }
     ensures { area_by result ≡ area_in w }
 {
+    // stays: side by side, since a side that is off the grid has no place in half-steps.
     Area {
         west: to_half(Grid(w.west)),
         south: to_half(Grid(w.south)),
@@ -93,6 +94,7 @@ fn seen(row: Row, k: Area) -> bool
 }
 
 // The live slots whose line meets the rectangle, rising, at the front of `to`, and how many.
+// stays: the count beside `to`, as in `tables::gather`.
 fn seen_slots(lines: &[u16], to: &mut [u16], k: Area) -> usize
     requires { (every (slot_sound lines.now) (slots_of lines.now) ≡ true) × (length lines.now ≤ 8192) × (length lines.now ≤ 8 * length to.old) }
     ensures { Front (slots_in lines.now (area_by k)) to.old to.new result }

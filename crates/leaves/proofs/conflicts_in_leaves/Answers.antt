@@ -1,10 +1,10 @@
 use borrow.Author.Tests.{not-true, not-false}
-use mathlib.Core.Path.{sym, ap}
+use mathlib.Core.Path.{sym, ap, ◌∙◌}
 use mathlib.Core.Bool.{not}
 use native.Mathlib.Omega.{arith}
 use Rattle.leaves.proofs.Ahead.{ahead_start, ahead_end, ahead_parted, leaf_here, used_long}
 use Rattle.leaves.proofs.conflicts_in_leaves.Goals as goal
-use Rattle.leaves.proofs.conflicts_in_leaves.Goals.{then-n-ne-DIVIDED+else-n-gt-ALONE, else-n-ne-DIVIDED, else-n-gt-ALONE-via-then-n-gt-ALONE+else-leaf_conflicts, else-n-gt-ALONE-via-else-n-gt-ALONE}
+use Rattle.leaves.proofs.conflicts_in_leaves.Goals.{then-n-mark+else-n-gt-ALONE, else-n-mark, else-n-gt-ALONE-via-then-n-gt-ALONE+else-leaf_conflicts, else-n-gt-ALONE-via-else-n-gt-ALONE}
 
 pub slice_bounds-node-items-end : goal.slice_bounds-node-items-end
 slice_bounds-node-items-end c = used_long c.requires (omega arith)
@@ -13,26 +13,26 @@ pub loop-node-init : goal.loop-node-init
 loop-node-init c = ahead_start c.requires
 
 pub split_at-requires : goal.split_at-requires
-split_at-requires c = (leaf_here c.loop-node.invariant (omega arith) c.loop-node-test.true c.from-n.ensures c.if-n-ne-DIVIDED.true).fits
+split_at-requires c = (leaf_here c.loop-node.invariant (omega arith) c.loop-node-test.true c.from-n.ensures (λ e. c.if-n-mark.true (e ∙ sym c.from-mark.ensures))).fits
 
 pub leaf_conflicts-requires : goal.leaf_conflicts-requires
-leaf_conflicts-requires c = rw c.split_at.ensures.front (leaf_here c.loop-node.invariant (omega arith) c.loop-node-test.true c.from-n.ensures c.if-n-ne-DIVIDED.true).good
+leaf_conflicts-requires c = rw c.split_at.ensures.front (leaf_here c.loop-node.invariant (omega arith) c.loop-node-test.true c.from-n.ensures (λ e. c.if-n-mark.true (e ∙ sym c.from-mark.ensures))).good
 
 pub returns-then-leaf_conflicts : goal.returns-then-leaf_conflicts
 returns-then-leaf_conflicts c =
-    let l = leaf_here c.loop-node.invariant (omega arith) c.loop-node-test.true c.from-n.ensures c.if-n-ne-DIVIDED.true in
+    let l = leaf_here c.loop-node.invariant (omega arith) c.loop-node-test.true c.from-n.ensures (λ e. c.if-n-mark.true (e ∙ sym c.from-mark.ensures)) in
     sym (ap not (l.stops (not-true _ (rw c.split_at.ensures.front at (sym c.if-leaf_conflicts.ensures)))))
 
 pub loop-node-preserved : goal.loop-node-preserved
 loop-node-preserved c =
     let inv = c.loop-node.invariant in
     let here = leaf_here inv (omega arith) c.loop-node-test.true c.from-n.ensures in
-    elim c.if-n-ne-DIVIDED.branch [
-      | then-n-ne-DIVIDED+else-n-gt-ALONE v ↦ let l = here v.if-n-ne-DIVIDED.true in rw v.rest-is (l.passed (elim v.else-n-gt-ALONE.branch [
+    elim c.if-n-mark.branch [
+      | then-n-mark+else-n-gt-ALONE v ↦ let l = here (λ e. v.if-n-mark.true (e ∙ sym c.from-mark.ensures)) in rw v.rest-is (l.passed (elim v.else-n-gt-ALONE.branch [
         | else-n-gt-ALONE-via-then-n-gt-ALONE+else-leaf_conflicts u ↦ not-false _ (rw v.split_at.ensures.front at (sym u.if-leaf_conflicts.ensures))
         | else-n-gt-ALONE-via-else-n-gt-ALONE u ↦ l.few u.if-n-gt-ALONE.false
       ]) v.split_at.ensures.back)
-      | else-n-ne-DIVIDED v ↦ rw v.rest-is (ahead_parted inv (omega arith) c.loop-node-test.true c.from-n.ensures v.if-n-ne-DIVIDED.false)
+      | else-n-mark v ↦ rw v.rest-is (ahead_parted inv (omega arith) c.loop-node-test.true c.from-n.ensures (v.if-n-mark.false ∙ c.from-mark.ensures))
     ]
 
 pub returns : goal.returns
