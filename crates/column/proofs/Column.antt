@@ -4,7 +4,8 @@ use mathlib.Core.Bool.{Bool, true, false, not}
 use mathlib.Core.List.{List}
 use Prim.Native.Nat.{ℕ, ◌+◌, ◌-◌, ◌*◌, ◌≤◌, ◌<◌}
 use native.Mathlib.Omega.{arith}
-use lib.ListN.{length, get_or, take, drop}
+use lib.ListN.{length, get_or, set, take, drop}
+use Rattle.std.proofs.lemmas.List.{get_or-set_same, get_or-set_other}
 use Rattle.definitions.specs.declared.Half.{Half}
 use Rattle.definitions.specs.declared.Point.{Point}
 use Rattle.definitions.specs.Shape.{Line, Block, north, turn}
@@ -23,17 +24,17 @@ use Rattle.scan.specs.declared.Scan.{Scan}
 use Rattle.scan.specs.Asked.{Scannable, ScanIs}
 use Rattle.scan.specs.Told.{live_on_map}
 use Rattle.path.specs.declared.Spot.{Spot}
+use Rattle.column.specs.declared.Later.{Later}
+use Rattle.column.specs.declared.TheConstants.{NO_BLOCK}
 use Rattle.path.specs.Asked.{SonIs, is_upper, is_lower, Stacked}
-use Rattle.path.specs.Seats.{leaf_cut, Halves, halves, Son, son_at, entries_kept}
+use Rattle.path.specs.Seats.{leaf_cut, Halves, halves, Son, son_at}
 use Rattle.column.specs.Asked.{PutBy, ground, next, Column, GoneOn, Walking, Came, LeafAsked, LeafTold}
 
--- ---- What is put by is kept by writes after it
+-- ---- What is put by is kept by a write after it
 
-module _ {lines nodes listings index later later' : List ℕ} {d : Bool} {p : Point} where
-  put_kept : {i S T : ℕ} → PutBy lines nodes listings index later d p i S T → ((k : ℕ) → k < 4 * i → get_or later' k 0 ≡ get_or later k 0) → PutBy lines nodes listings index later' d p i S T
-  put_kept (ground e) same = ground e
-  put_kept (next {i = i} e q f n r) same =
-      next (entries_kept e same) q f n (put_kept r (λ k h. same k (omega arith)))
+put_kept : {lines nodes listings index : List ℕ} {later : List Later} {d : Bool} {p : Point} {n i S T : ℕ} (l : Later) → PutBy lines nodes listings index later d p i S T → i ≤ n → PutBy lines nodes listings index (set later n l) d p i S T
+put_kept l (ground e) h = ground e
+put_kept {later = later} {n = n} l (next {i = i} e q f m r) h = next (get_or-set_other later n i l NO_BLOCK (λ x. absurd (omega arith)) ∙ e) q f m (put_kept l r (omega arith))
 
 -- ---- Into a block
 
@@ -47,25 +48,25 @@ order : (d : Bool) {j a b m n : Block} → Stacked j a b → SonIs a b d m → S
 order true t (is_upper e) (is_lower f) = record { begins = ap (near true) e ∙ t.top; meets = ap (near true) f ∙ t.seam ∙ sym (ap (far true) e); ends = ap (far true) f ∙ t.bottom }
 order false t (is_lower e) (is_upper f) = record { begins = ap (near false) e ∙ t.bottom; meets = ap (near false) f ∙ sym t.seam ∙ sym (ap (far false) e); ends = ap (far false) f ∙ t.top }
 
-module _ {lines nodes listings index later : List ℕ} {d : Bool} {p : Point} {at : Spot} {T : ℕ} (h : Column lines nodes listings index later d p at T) where
-  module _ {later' : List ℕ} {r : Spot} (e : get_or nodes at.node 0 ≡ 65535) (g : GoneOn index p at d later later' r) where
+module _ {lines nodes listings index : List ℕ} {later : List Later} {d : Bool} {p : Point} {at : Spot} {T : ℕ} (h : Column lines nodes listings index later d p at T) where
+  module _ {later' : List Later} {r : Spot} (e : get_or nodes at.node 0 ≡ 65535) (g : GoneOn index p at d later later' r) where
     abbrev two : Halves h.placed g.which g.above g.below
     two = halves h.placed e g.strip
 
     abbrev first : Son lines nodes listings index p h.placed.level at.block.side r.node (block_of r.block)
     first = son_at two g.entry g.node_is g.block_is
 
-    abbrev other : Son lines nodes listings index p h.placed.level at.block.side (get_or index g.after 0) g.last
+    abbrev other : Son lines nodes listings index p h.placed.level at.block.side (get_or index g.after 0) (block_of g.last)
     other = son_at two g.after_is refl g.last_is
 
-    abbrev way : Order d (block_of at.block) (block_of r.block) g.last
+    abbrev way : Order d (block_of at.block) (block_of r.block) (block_of g.last)
     way = order d two.stacked g.block_is g.last_is
 
     pub into : Column lines nodes listings index later' d p r T
     into = record {
       placed = first.placed;
       few = omega (arith, first.level_is, h.few, g.by_is);
-      put_by = rw g.by_is (next g.put.entries other.placed (omega (arith, other.level_is, h.few)) way.meets (subst (λ (S : ℕ). PutBy lines nodes listings index later' d p at.by S T) (sym way.ends) (put_kept h.put_by g.put.below)));
+      put_by = rw (g.by_is, g.put) (next {T = T} (get_or-set_same later at.by _ NO_BLOCK g.room) other.placed (omega (arith, other.level_is, h.few)) way.meets (rw way.ends (put_kept _ h.put_by (omega arith))));
     }
 
     pub begins : near d (block_of r.block) ≡ near d (block_of at.block)
@@ -77,10 +78,10 @@ module _ {lines nodes listings index later : List ℕ} {d : Bool} {p : Point} {a
 -- ---- From spot to spot
 
 module _ {nodes index : List ℕ} {d : Bool} {p : Point} where
-  pub came_on : {later₀ later later' : List ℕ} {at₀ at r : Spot} → Came nodes index p at₀ d later₀ later at → Walking nodes index later p at d → get_or nodes at.node 0 ≡ 65535 → GoneOn index p at d later later' r → Came nodes index p at₀ d later₀ later' r
+  pub came_on : {later₀ later later' : List Later} {at₀ at r : Spot} → Came nodes index p at₀ d later₀ later at → Walking nodes index later p at d → get_or nodes at.node 0 ≡ 65535 → GoneOn index p at d later later' r → Came nodes index p at₀ d later₀ later' r
   came_on c w e g = record { stands = λ h. into (c.stands h) e g; near_is = begins w.column e g ∙ c.near_is }
 
-  pub walking_on : {later later' : List ℕ} {at r : Spot} (w : Walking nodes index later p at d) → length later' ≡ length later → get_or nodes at.node 0 ≡ 65535 → GoneOn index p at d later later' r → Walking nodes index later' p r d
+  pub walking_on : {later later' : List Later} {at r : Spot} (w : Walking nodes index later p at d) → length later' ≡ length later → get_or nodes at.node 0 ≡ 65535 → GoneOn index p at d later later' r → Walking nodes index later' p r d
   walking_on w l e g = record { lines = w.lines; listings = w.listings; side = w.side; column = into w.column e g; room = l ∙ w.room }
 
 -- ---- A leaf's list

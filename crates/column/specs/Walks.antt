@@ -19,7 +19,6 @@ use Rattle.meaning.specs.Column.{near, far, Seen, BestOf, SouthOf, listed→, se
 use Rattle.meaning.specs.Walk.{reached, reached_best, leaf_seen}
 use Rattle.meaning.specs.Locate.{first_on, own_first, first→, answer_first, none_first}
 use Rattle.tables.specs.Rows.{OnMap}
-use Rattle.walk.specs.Index.{Entries}
 use Rattle.scan.specs.declared.Scan.{Scan}
 use Rattle.scan.specs.declared.Scan.TheVariants as Scanned
 use Rattle.scan.specs.Asked.{none, NoneOn, ScanIs, BestOn}
@@ -28,7 +27,9 @@ use Rattle.path.specs.declared.Spot.{Spot}
 use Rattle.path.specs.Placed.{Placed}
 use Rattle.path.specs.Asked.{Held}
 use Rattle.path.specs.Ways.{Aside}
-use Rattle.column.specs.Asked.{AtLeaf, Down, LeafTold, PutBy, ground, next, Column, TakenUp}
+use Rattle.column.specs.Asked.{AtLeaf, Down, LeafTold, later_at, PutBy, ground, next, Column, TakenUp}
+use Rattle.path.specs.declared.Fork.{Fork}
+use Rattle.column.specs.declared.Later.{Later}
 
 -- ---- A leaf
 
@@ -94,7 +95,7 @@ module _ {lines : List ℕ} {d : Bool} {p : Point} {S : ℕ} {c : Found} (h : Do
 
 module _ {lines nodes listings index : List ℕ} {d : Bool} {p : Point} where
   -- the leaf that holds p
-  pub at_own : {path : List ℕ} {own at : Spot} → Held lines nodes listings index path p own → (get_or nodes own.node 0 ≡ 65535 → ⊥) → End p → at.node ≡ own.node → at.block ≡ own.block → AtLeaf lines nodes listings index d p at None
+  pub at_own : {path : List Fork} {own at : Spot} → Held lines nodes listings index path p own → (get_or nodes own.node 0 ≡ 65535 → ⊥) → End p → at.node ≡ own.node → at.block ≡ own.block → AtLeaf lines nodes listings index d p at None
   at_own {own = own} {at = at} h w g e f = record { placed = rw (e, f) h.placed; whole = rw e w; seen = rw f (start d); here = inl (rw f holds); on_way = none; point = g }
     where
       start : (d : Bool) → Seen lines d p (near d (block_of own.block)) None
@@ -105,19 +106,12 @@ module _ {lines nodes listings index : List ℕ} {d : Bool} {p : Point} where
       holds = unfold inside in (both← (both← (le-leb _ _ h.placed.from_west) (le-leb _ _ h.placed.to_east)) (both← (le-leb own.block.south.0 p.y.0 (omega (arith, h.from_south))) (le-leb _ _ h.to_north)))
 
   -- another leaf, that begins where what was seen ends
-  pub at_next : {later : List ℕ} {S T : ℕ} {r : Spot} {c : Found} → Down lines d p S c → Column lines nodes listings index later d p r T → near d (block_of r.block) ≡ S → (get_or nodes r.node 0 ≡ 65535 → ⊥) → End p → AtLeaf lines nodes listings index d p r c
+  pub at_next : {later : List Later} {S T : ℕ} {r : Spot} {c : Found} → Down lines d p S c → Column lines nodes listings index later d p r T → near d (block_of r.block) ≡ S → (get_or nodes r.node 0 ≡ 65535 → ⊥) → End p → AtLeaf lines nodes listings index d p r c
   at_next {S = S} {r = r} {c = c} h q e w g = record { placed = q.placed; whole = w; seen = subst (λ (n : ℕ). Seen lines d p n c) (sym e) h.seen; here = inr h.none_on; on_way = h.on_way; point = g }
 
 -- ---- The block put by last
 
-module _ {later : List ℕ} {i n a b c m x y z : ℕ} (e : Entries later i n a b c) (f : Entries later i m x y z) where
-  one_node : n ≡ m
-  one_node = sym e.first ∙ f.first
-
-  one_block : ◌≡◌ {A = Block} (record { west = a; south = b; side = c }) (record { west = x; south = y; side = z })
-  one_block = λ t. record { west = (sym e.second ∙ f.second) t; south = (sym e.third ∙ f.third) t; side = (sym e.fourth ∙ f.fourth) t }
-
-module _ {lines nodes listings index later : List ℕ} {d : Bool} {p : Point} where
+module _ {lines nodes listings index : List ℕ} {later : List Later} {d : Bool} {p : Point} where
   -- with none put by, the walk has come to the last side
   pub grounded : {i S T : ℕ} → PutBy lines nodes listings index later d p i S T → i ≡ 0 → S ≡ T
   grounded (ground e) f = e
@@ -125,21 +119,21 @@ module _ {lines nodes listings index later : List ℕ} {d : Bool} {p : Point} wh
 
   pub taken : {i j S T : ℕ} {r : Spot} → PutBy lines nodes listings index later d p i S T → suc j ≡ i → TakenUp later j r → Column lines nodes listings index later d p r T × (near d (block_of r.block) ≡ S)
   taken (ground f) e t = absurd (omega arith)
-  taken {j = j} {T = T} {r = r} (next {i = i} {node = node} {k = k} x q f n u) e t = (record { placed = both.0; few = omega (arith, both.1, same, t.by_is); put_by = rw (t.by_is ∙ same, sym block) u }, ap (near d) (sym block) ∙ n)
+  taken {j = j} {T = T} {r = r} (next {i = i} {l = l} x q f n u) e t = (record { placed = both.0; few = omega (arith, both.1, same, t.by_is); put_by = rw (t.by_is ∙ same, sym block) u }, ap (near d) (sym block) ∙ n)
     where
       same : j ≡ i
       same = omega arith
 
-      here : Entries later i r.node r.block.west.0 r.block.south.0 r.block.side
-      here = subst (λ (m : ℕ). Entries later m r.node r.block.west.0 r.block.south.0 r.block.side) same t.entries
+      here : l ≡ record { node = r.node; block = r.block }
+      here = sym x ∙ ap (later_at later) (sym same) ∙ t.put
 
-      block : k ≡ block_of r.block
-      block = one_block x here
+      block : block_of l.block ≡ block_of r.block
+      block = ap (λ (m : Later). block_of m.block) here
 
       both : (q : Placed lines nodes listings index p r.node (block_of r.block)) × (q.level + i ≤ 14)
-      both = rw (← one_node x here, ← block) (q, f)
+      both = subst (λ (m : Later). (q : Placed lines nodes listings index p m.node (block_of m.block)) × (q.level + i ≤ 14)) here (q, f)
 
   -- ---- The block beside the path
 
-  pub aside_column : {path : List ℕ} {level S : ℕ} {r : Spot} → (a : Aside lines nodes listings index path p d level S r) → r.by ≡ 0 → Column lines nodes listings index later d p r (far d a.on_path.block)
+  pub aside_column : {path : List Fork} {level S : ℕ} {r : Spot} → (a : Aside lines nodes listings index path p d level S r) → r.by ≡ 0 → Column lines nodes listings index later d p r (far d a.on_path.block)
   aside_column {r = r} a e = record { placed = a.placed; few = omega (arith, a.few, e); put_by = rw e (ground (sym a.on_path.far_is)) }

@@ -1,7 +1,7 @@
 // The column of leaves over a point, from its own leaf south or north: where a walk of it stands, and what each leaf adds.
 #![tactic(auto)]
 
-ghost use Rattle.std.specs.Prelude.{◌≡◌, ◌+◌, ◌*◌, ◌≤◌, ◌<◌, length};
+ghost use Rattle.std.specs.Prelude.{◌≡◌, ◌+◌, ◌<◌, length};
 ghost use Rattle.geometry.specs.Means.{block_of};
 ghost use Rattle.meaning.specs.Column.{far};
 ghost use Rattle.meaning.specs.Walk.{reached};
@@ -13,25 +13,37 @@ use geometry::{Block, reaches};
 use path::{Spot, entry_of, son_of, strip_of};
 use scan::{Scan, scan_slots};
 use tables::line_at;
-use walk::{DIVIDED, put_four};
+use walk::DIVIDED;
+
+// A block put by, with its node.
+#[derive(Clone, Copy)]
+pub struct Later {
+    pub node: u16,
+    pub block: Block,
+}
+
+// Past the end of a table of blocks put by.
+pub const NO_BLOCK: Later = Later {
+    node: 0,
+    block: Block {
+        west: Half(0),
+        south: Half(0),
+        side: 0,
+    },
+};
 
 // Into a divided block beyond the point: to the son that comes first on the way, with the other put by.
-fn go_on(index: &[u16], later: &mut [u16], p: Point, at: Spot, south: bool) -> Spot
-    requires { Entered index.now later.old at }
+fn go_on(index: &[u16], later: &mut [Later], p: Point, at: Spot, south: bool) -> Spot
+    requires { Entered index.now (length later.old) at }
     ensures { GoneOn index.now p at south later.old later.new result }
 {
     let two = strip_of(p, at.block);
     let entry = 4 * at.node + two.which;
-    let last = son_of(two, !south);
     let after = entry_of(entry, !south);
-    put_four(
-        later,
-        at.by,
-        index[after],
-        last.west.0,
-        last.south.0,
-        last.side,
-    );
+    later[at.by] = Later {
+        node: index[after],
+        block: son_of(two, !south),
+    };
     let son = entry_of(entry, south);
     Spot {
         node: usize::from(index[son]),
@@ -44,7 +56,7 @@ fn go_on(index: &[u16], later: &mut [u16], p: Point, at: Spot, south: bool) -> S
 pub fn go_down(
     nodes: &[u16],
     index: &[u16],
-    later: &mut [u16],
+    later: &mut [Later],
     p: Point,
     from: Spot,
     south: bool,
@@ -62,18 +74,14 @@ pub fn go_down(
 }
 
 // The block put by last.
-pub fn take_up(later: &[u16], by: usize) -> Spot
-    requires { 4 * by + 4 ≤ length later.now }
+pub fn take_up(later: &[Later], by: usize) -> Spot
+    requires { by < length later.now }
     ensures { TakenUp later.now by result }
 {
-    let at = 4 * by;
+    let put = &later[by];
     Spot {
-        node: usize::from(later[at]),
-        block: Block {
-            west: Half(later[at + 1]),
-            south: Half(later[at + 2]),
-            side: later[at + 3],
-        },
+        node: usize::from(put.node),
+        block: put.block,
         by,
     }
 }

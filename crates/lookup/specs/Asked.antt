@@ -6,6 +6,7 @@ use Rattle.definitions.specs.Lookup.{answer_at}
 use Rattle.geometry.specs.Range.{End}
 use Rattle.meaning.specs.Found.{Found}
 use Rattle.scan.specs.Asked.{OnWay, label_by, BestOn}
+use Rattle.path.specs.declared.Fork.{Fork}
 use Rattle.path.specs.declared.Spot.{Spot}
 use Rattle.lookup.specs.declared.Map.{Map}
 use Rattle.path.specs.Placed.{Charted}
@@ -40,14 +41,14 @@ pub record FoundIs (lines : List ℕ) (d : Bool) (p : Point) (found : Option ℕ
 
 -- ---- A walk
 
-pub record WalkAsked (map : Map) (p : Point) (path : List ℕ) (own : Spot) : Type 0 where
+pub record WalkAsked (map : Map) (p : Point) (path : List Fork) (own : Spot) : Type 0 where
   pub ready : Ready map
   pub point : End p
   pub held : Held map.lines.now map.nodes.now map.listings.now map.index.now path p own
   pub whole : get_or map.nodes.now own.node 0 ≡ 65535 → ⊥
 
 -- a way is asked from this leaf by a walk, or from none by a plain search
-pub record AskedFrom (map : Map) (p : Point) (path : List ℕ) (own : Option Spot) : Type 0 where
+pub record AskedFrom (map : Map) (p : Point) (path : List Fork) (own : Option Spot) : Type 0 where
   pub ready : Ready map
   pub point : End p
   pub walk : {leaf : Spot} → own ≡ Some leaf → WalkAsked map p path leaf

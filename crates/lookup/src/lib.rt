@@ -10,10 +10,10 @@ ghost use Rattle.path.specs.Placed.{Mapped};
 ghost use Rattle.column.specs.Asked.{LeafAsked, LeafTold};
 ghost use Rattle.lookup.specs.Asked.{Ready, Counting, ToldBy, FoundIs, WalkAsked, AskedFrom};
 
-use column::{go_down, scan_leaf, settled, take_up};
+use column::{Later, NO_BLOCK, go_down, scan_leaf, settled, take_up};
 use definitions::Point;
 use geometry::{on_grid, point_of};
-use path::{Spot, beside, own_leaf, turn_off};
+use path::{Fork, NO_FORK, Spot, beside, own_leaf, turn_off};
 use scan::{Scan, answer_by, answer_on, search_all};
 use tables::live_slots;
 use walk::index_nodes;
@@ -44,8 +44,8 @@ struct Map<'a> {
 // What walks share: the path to the leaf of a point, the blocks put by, and what is left to pay for walks with.
 #[derive(Drop)]
 struct Walks {
-    path: [u16; 64],
-    later: [u16; 64],
+    path: [Fork; 16],
+    later: [Later; 16],
     left: usize,
 }
 
@@ -202,8 +202,8 @@ impl Map<'_> {
         ensures { answers.new ≡ answers_to self.now.lines.now points.now }
     {
         let mut walks = Walks {
-            path: [0; 64],
-            later: [0; 64],
+            path: [NO_FORK; 16],
+            later: [NO_BLOCK; 16],
             left: MOST,
         };
         for (at, answer) in answers.iter_mut().enumerate() {

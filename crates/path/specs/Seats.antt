@@ -9,7 +9,7 @@ use Rattle.definitions.specs.Tree.{Rule, Tree, leaf, divided, block, listed, tre
 use Rattle.definitions.specs.Tables.{live_lines}
 use Rattle.plane.specs.Blocks.{double, half_power, some_power}
 use Rattle.meaning.specs.Rules.{by_leaf, by_divided, sons_by}
-use Rattle.walk.specs.Index.{after_nodes, after_listings, ne_first, sw_first, se_first, Entries, Stands, leaf_stands, sons_stand, Indexed, leaf_indexed, sons_indexed}
+use Rattle.walk.specs.Index.{after_nodes, after_listings, ne_first, sw_first, se_first, Stands, leaf_stands, sons_stand, Indexed, leaf_indexed, sons_indexed}
 use Rattle.walk.specs.Placing.{divided_nodes, divided_listings}
 use Rattle.geometry.specs.Means.{block_of}
 use Rattle.path.specs.declared.Spot.{Spot}
@@ -204,23 +204,12 @@ son_at two (of_upper x) y (is_upper z) = rw (y, x, z) (record { placed = two.upp
 son_at two (of_lower x) y (is_lower z) = rw (y, x, z) (record { placed = two.lower; level_is = two.level.1; less = two.less.1 })
 
 -- a divided block can be gone into where few places of the table are taken
-pub entered : {lines nodes listings index table : List ℕ} {p : Point} {at : Spot} → Placed lines nodes listings index p at.node (block_of at.block) → at.by ≤ 13 → length table ≡ 64 → Entered index table at
+pub entered : {lines nodes listings index : List ℕ} {places : ℕ} {p : Point} {at : Spot} → Placed lines nodes listings index p at.node (block_of at.block) → at.by ≤ 13 → places ≡ 16 → Entered index places at
 entered q f l =
     record {
       entries = omega (arith, placed_there q, q.chart.room);
       room = omega arith;
       few_nodes = omega (arith, placed_there q, q.chart.map.few_nodes);
-      few = omega arith;
       east_in = omega (arith, q.east_in);
       north_in = omega (arith, q.north_in);
-    }
-
--- the entries of a place are kept by writes after it
-pub entries_kept : {s s' : List ℕ} {i a b c d : ℕ} → Entries s i a b c d → ((k : ℕ) → k < 4 * suc i → get_or s' k 0 ≡ get_or s k 0) → Entries s' i a b c d
-entries_kept {i = i} e same =
-    record {
-      first = same (4 * i) (omega arith) ∙ e.first;
-      second = same (4 * i + 1) (omega arith) ∙ e.second;
-      third = same (4 * i + 2) (omega arith) ∙ e.third;
-      fourth = same (4 * i + 3) (omega arith) ∙ e.fourth;
     }

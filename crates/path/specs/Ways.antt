@@ -2,25 +2,26 @@
 use Rattle.std.specs.Prelude.{◌≡◌, ◌⊎◌, Option, Bool, true, false, not, List, length, get_or}
 use Rattle.std.proofs.Math.Path.{refl, sym, subst}
 use Rattle.std.proofs.Common.{ap, ◌∙◌, inl, inr, arith}
-use Prim.Native.Nat.{ℕ, suc, ◌+◌, ◌-◌, ◌*◌, ◌≤◌, ◌<◌}
+use Prim.Native.Nat.{ℕ, suc, ◌-◌, ◌≤◌, ◌<◌}
 use Rattle.std.proofs.Math.Dec.{ltb}
 use Rattle.definitions.specs.declared.Point.{Point}
 use Rattle.definitions.specs.Shape.{Block, whole_map}
 use Rattle.geometry.specs.Means.{block_of}
 use Rattle.plane.specs.Compare.{order}
 use Rattle.meaning.specs.Column.{near, far}
+use Rattle.path.specs.declared.Fork.{Fork}
 use Rattle.path.specs.declared.Spot.{Spot}
 use Rattle.path.specs.Placed.{Placed}
-use Rattle.path.specs.Asked.{SonEntry, of_upper, of_lower, SonIs, is_upper, is_lower, Stacked, PathTo, top, step, went_up, left_at, TurnedOff, TurnsOff, OtherSon, lower_one, upper_one, Beside}
+use Rattle.path.specs.Asked.{SonEntry, of_upper, of_lower, SonIs, is_upper, is_lower, Stacked, PathTo, top, step, fork_at, went_up, left_at, TurnedOff, TurnsOff, OtherSon, lower_one, upper_one, Beside}
 
 -- a block of the path that the way leaves at this side
-pub record OnPath (lines nodes listings index path : List ℕ) (p : Point) (south : Bool) (level side : ℕ) : Type 0 where
+pub record OnPath (lines nodes listings index : List ℕ) (path : List Fork) (p : Point) (south : Bool) (level side : ℕ) : Type 0 where
   pub block : Block
   pub path_to : PathTo lines nodes listings index path p level block
   pub far_is : far south block ≡ side
 
 -- a block beside the path, where the way left it, and the block of the path that it leaves with this one
-pub record Aside (lines nodes listings index path : List ℕ) (p : Point) (south : Bool) (level side : ℕ) (r : Spot) : Type 0 where
+pub record Aside (lines nodes listings index : List ℕ) (path : List Fork) (p : Point) (south : Bool) (level side : ℕ) (r : Spot) : Type 0 where
   pub placed : Placed lines nodes listings index p r.node (block_of r.block)
   pub few : placed.level ≤ 13
   pub near_is : near south (block_of r.block) ≡ side
@@ -31,16 +32,16 @@ same_side : (south : Bool) {j a b k : Block} → Stacked j a b → SonIs a b (no
 same_side true t (is_lower e) = ap (far true) e ∙ t.bottom
 same_side false t (is_upper e) = ap (far false) e ∙ t.top
 
-module _ {lines nodes listings index path : List ℕ} {p : Point} where
+module _ {lines nodes listings index : List ℕ} {path : List Fork} {p : Point} where
   up_to : (south : Bool) {from : ℕ} {k : Block} (r : ℕ) → PathTo lines nodes listings index path p from k → r ≤ from → ((i : ℕ) → r ≤ i → i < from → went_up path p i ≡ not south) → OnPath lines nodes listings index path p south r (far south k)
   up_to south r top h f = record { block = whole_map; path_to = subst (λ (n : ℕ). PathTo lines nodes listings index path p n whole_map) {x = 0} {y = r} (omega arith) top; far_is = refl }
-  up_to south r (step {i = i} {j = j} {a = a} {b = b} {k = k} e q s l t g u) h f = go (λ m g. up_to south r u m g) (order r i)
+  up_to south r (step {i = i} {f = fork} {j = j} {b = b} {k = k} e q s l t g u) h f = go (λ m g. up_to south r u m g) (order r i)
     where
       go : (r ≤ i → ((n : ℕ) → r ≤ n → n < i → went_up path p n ≡ not south) → OnPath lines nodes listings index path p south r (far south j)) → (r ≤ i) ⊎ (i < r) → OnPath lines nodes listings index path p south r (far south k)
       go more (inl m) =
           let o = more m (λ n x y. f n x (omega arith)) in
-          let w : ltb (get_or path (4 * i + 2) 0) p.y.0 ≡ not south = unfold went_up in (f i m (omega arith)) in
-          record { block = o.block; path_to = o.path_to; far_is = o.far_is ∙ sym (same_side south t (subst (λ (x : Bool). SonIs a b x k) (ap (λ (n : ℕ). ltb n p.y.0) (sym e.third) ∙ w) g)) }
+          let w : ltb (fork_at path i).above.south.0 p.y.0 ≡ not south = unfold went_up in (f i m (omega arith)) in
+          record { block = o.block; path_to = o.path_to; far_is = o.far_is ∙ sym (same_side south t (subst (λ (x : Bool). SonIs (block_of fork.above) b x k) (ap (λ (n : Fork). ltb n.above.south.0 p.y.0) (sym e) ∙ w) g)) }
       go more (inr m) = record { block = k; path_to = subst (λ (n : ℕ). PathTo lines nodes listings index path p n k) {x = suc i} {y = r} (omega arith) (step e q s l t g u); far_is = refl }
 
   pub turned_up : {south : Bool} {from : ℕ} {r : Option ℕ} {k : Block} → PathTo lines nodes listings index path p from k → TurnedOff path p south from r → OnPath lines nodes listings index path p south (left_at r) (far south k)
@@ -59,26 +60,23 @@ module _ {lines nodes listings index path : List ℕ} {p : Point} where
 
     -- the other son, if it lies on the way
     pub turned_off : {south : Bool} {k : Block} → PathTo lines nodes listings index path p (suc i) k → went_up path p i ≡ south → Beside index path i south r → Aside lines nodes listings index path p south i (far south k) r
-    turned_off {south} (step {entry = entry} {j = j} {a = a} {b = b} {k = k} y q s l t g u) e x = by south (subst (λ (z : Bool). SonIs a b z k) (ap (λ (n : ℕ). ltb n p.y.0) (sym y.third) ∙ went) g) x.entry x.block_is
+    turned_off {south} (step {f = f} {j = j} {b = b} {k = k} y q s l t g u) e x = by south (subst (λ (z : Bool). SonIs (block_of f.above) b z k) (ap (λ (n : Fork). ltb n.above.south.0 p.y.0) (sym y) ∙ went) g) (rw y at x.entry) (rw y at x.block_is)
       where
-        went : ltb (get_or path (4 * i + 2) 0) p.y.0 ≡ south
+        went : ltb (fork_at path i).above.south.0 p.y.0 ≡ south
         went = unfold went_up in e
 
-        down : b.south ≡ get_or path (4 * i + 2) 0 - get_or path (4 * i + 3) 0
-        down = rw (y.third, y.fourth) (omega (arith, t.seam, t.same_side))
+        down : b.south ≡ f.above.south.0 - f.above.side
+        down = omega (arith, t.seam, t.same_side)
 
-        low : b ≡ record { west = get_or path (4 * i + 1) 0; south = get_or path (4 * i + 2) 0 - get_or path (4 * i + 3) 0; side = get_or path (4 * i + 3) 0 }
-        low = λ z. record { west = (t.same_west ∙ sym y.second) z; south = down z; side = (t.same_side ∙ sym y.fourth) z }
+        low : b ≡ record { west = f.above.west.0; south = f.above.south.0 - f.above.side; side = f.above.side }
+        low = λ z. record { west = t.same_west z; south = down z; side = t.same_side z }
 
-        high : a ≡ record { west = get_or path (4 * i + 1) 0; south = get_or path (4 * i + 2) 0; side = get_or path (4 * i + 3) 0 }
-        high = λ z. record { west = sym y.second z; south = sym y.third z; side = sym y.fourth z }
-
-        by : (south : Bool) → SonIs a b south k → SonEntry (get_or path (4 * i) 0) (not south) x.son → OtherSon path i south (block_of r.block) → Aside lines nodes listings index path p south i (far south k) r
+        by : (south : Bool) → SonIs (block_of f.above) b south k → SonEntry f.entry (not south) x.son → OtherSon f south (block_of r.block) → Aside lines nodes listings index path p south i (far south k) r
         by true (is_upper g) (of_lower v) (lower_one w) =
-            aside_at true s l.1 (x.node_is ∙ ap (λ (n : ℕ). get_or index n 0) (v ∙ ap (λ (n : ℕ). n + 2) y.first)) (w ∙ sym low) (t.seam ∙ sym (ap (far true) g)) (record { block = j; path_to = u; far_is = sym t.bottom })
+            aside_at true s l.1 (x.node_is ∙ ap (λ (n : ℕ). get_or index n 0) v) (w ∙ sym low) (t.seam ∙ sym (ap (far true) g)) (record { block = j; path_to = u; far_is = sym t.bottom })
         by false (is_lower g) (of_upper v) (upper_one w) =
-            aside_at false q l.0 (x.node_is ∙ ap (λ (n : ℕ). get_or index n 0) (v ∙ y.first)) (w ∙ sym high) (sym t.seam ∙ sym (ap (far false) g)) (record { block = j; path_to = u; far_is = sym t.top })
+            aside_at false q l.0 (x.node_is ∙ ap (λ (n : ℕ). get_or index n 0) v) w (sym t.seam ∙ sym (ap (far false) g)) (record { block = j; path_to = u; far_is = sym t.top })
 
   -- what is read there
-  pub turns_off : {i : ℕ} {k : Block} → PathTo lines nodes listings index path p (suc i) k → i ≤ 13 → length path ≡ 64 → TurnsOff index path i
-  turns_off {i} (step y q s l t g u) h e = record { here = omega arith; few = omega arith; entries = rw y.first l.2; fits = rw y.first l.3; deep = rw (y.third, y.fourth) (omega (arith, t.seam, t.same_side)) }
+  pub turns_off : {i : ℕ} {k : Block} → PathTo lines nodes listings index path p (suc i) k → i ≤ 13 → length path ≡ 16 → TurnsOff index path i
+  turns_off {i} (step y q s l t g u) h e = record { here = omega arith; entries = rw y l.2; fits = rw y l.3; deep = rw y (omega (arith, t.seam, t.same_side)) }

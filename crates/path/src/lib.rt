@@ -1,13 +1,13 @@
 // The path from the whole map to the leaf that holds a point, and the blocks that lie beside it, over the same x.
 #![tactic(auto)]
 
-ghost use Rattle.std.specs.Prelude.{◌≡◌, ◌+◌, ◌*◌, ◌≤◌, ◌<◌, length};
+ghost use Rattle.std.specs.Prelude.{◌≡◌, ◌+◌, ◌≤◌, ◌<◌, length};
 ghost use Rattle.geometry.specs.Means.{block_of};
 ghost use Rattle.path.specs.Asked.{StripOver, SonEntry, SonIs, Entered, GoneIn, PathAsked, OwnIs, went_up, TurnedOff, TurnsOff, Beside};
 
 use definitions::{Half, Point};
 use geometry::{Block, north_east, north_west, south_east, south_west, whole_map};
-use walk::{DIVIDED, put_four};
+use walk::DIVIDED;
 
 // The half of a block that lies over a point: 0 for the west half, 1 for the east, and its two sons.
 #[derive(Clone, Copy)]
@@ -16,6 +16,24 @@ pub struct Strip {
     pub above: Block,
     pub below: Block,
 }
+
+// What the path keeps of a block gone into: the entry of its upper son over the point, and that son's block; the lower son's are told
+// from them.
+#[derive(Clone, Copy)]
+pub struct Fork {
+    pub entry: u16,
+    pub above: Block,
+}
+
+// Past the end of a path.
+pub const NO_FORK: Fork = Fork {
+    entry: 0,
+    above: Block {
+        west: Half(0),
+        south: Half(0),
+        side: 0,
+    },
+};
 
 // A block over the point, with its node. So many places of a table are taken: of the path, by the blocks gone into before it;
 // of the table of blocks put by, by those that come after it.
@@ -58,23 +76,18 @@ pub fn son_of(two: Strip, upper: bool) -> Block
     if upper { two.above } else { two.below }
 }
 
-// Into a divided block, to the son that holds p. What the path keeps of it: the entry of the upper son over p, and that son's
-// block; the lower son's are told from them.
-fn go_in(index: &[u16], path: &mut [u16], p: Point, at: Spot) -> Spot
-    requires { Entered index.now path.old at }
+// Into a divided block, to the son that holds p.
+fn go_in(index: &[u16], path: &mut [Fork], p: Point, at: Spot) -> Spot
+    requires { Entered index.now (length path.old) at }
     ensures { GoneIn index.now p at path.old path.new result }
 {
     let two = strip_of(p, at.block);
     let above = two.above;
     let entry = 4 * at.node + two.which;
-    put_four(
-        path,
-        at.by,
-        entry as u16,
-        above.west.0,
-        above.south.0,
-        above.side,
-    );
+    path[at.by] = Fork {
+        entry: entry as u16,
+        above,
+    };
     let upper = above.south.0 < p.y.0;
     let son = entry_of(entry, upper);
     Spot {
@@ -85,7 +98,7 @@ fn go_in(index: &[u16], path: &mut [u16], p: Point, at: Spot) -> Spot
 }
 
 // To the leaf that holds p.
-pub fn own_leaf(nodes: &[u16], index: &[u16], path: &mut [u16], p: Point) -> Spot
+pub fn own_leaf(nodes: &[u16], index: &[u16], path: &mut [Fork], p: Point) -> Spot
     requires { PathAsked nodes.now index.now path.old p }
     ensures { OwnIs nodes.now index.now path.new p result }
 {
@@ -103,16 +116,16 @@ pub fn own_leaf(nodes: &[u16], index: &[u16], path: &mut [u16], p: Point) -> Spo
 }
 
 // At this level the path went to the upper son.
-fn went_up(path: &[u16], p: Point, level: usize) -> bool
-    requires { 4 * level + 4 ≤ length path.now }
+fn went_up(path: &[Fork], p: Point, level: usize) -> bool
+    requires { level < length path.now }
     ensures { result ≡ went_up path.now p level }
 {
-    path[4 * level + 2] < p.y.0
+    path[level].above.south.0 < p.y.0
 }
 
 // From so many levels up the path, the first at which a son lies beside it on the way.
-pub fn turn_off(path: &[u16], p: Point, from: usize, south: bool) -> Option<usize>
-    requires { 4 * from ≤ length path.now }
+pub fn turn_off(path: &[Fork], p: Point, from: usize, south: bool) -> Option<usize>
+    requires { from ≤ length path.now }
     ensures { TurnedOff path.now p south from result }
 {
     for level in (0..from).rev() {
@@ -124,21 +137,20 @@ pub fn turn_off(path: &[u16], p: Point, from: usize, south: bool) -> Option<usiz
 }
 
 // The son beside the path at this level: the lower on the way south, the upper on the way north.
-pub fn beside(index: &[u16], path: &[u16], level: usize, south: bool) -> Spot
+pub fn beside(index: &[u16], path: &[Fork], level: usize, south: bool) -> Spot
     requires { TurnsOff index.now path.now level }
     ensures { Beside index.now path.now level south result }
 {
-    let at = 4 * level;
-    let son = entry_of(usize::from(path[at]), !south);
-    let seam = path[at + 2];
-    let side = path[at + 3];
-    let foot = if south { seam - side } else { seam };
+    let fork = &path[level];
+    let son = entry_of(usize::from(fork.entry), !south);
+    let upper = fork.above;
+    let seam = upper.south.0;
+    let foot = if south { seam - upper.side } else { seam };
     Spot {
         node: usize::from(index[son]),
         block: Block {
-            west: Half(path[at + 1]),
             south: Half(foot),
-            side,
+            ..upper
         },
         by: 0,
     }
