@@ -24,10 +24,10 @@ use Rattle.scan.specs.declared.Scan.{Scan}
 use Rattle.scan.specs.Asked.{Scannable, ScanIs}
 use Rattle.scan.specs.Told.{live_on_map}
 use Rattle.path.specs.declared.Spot.{Spot}
-use Rattle.column.specs.declared.Later.{Later}
-use Rattle.column.specs.declared.TheConstants.{NO_BLOCK}
 use Rattle.path.specs.Asked.{SonIs, is_upper, is_lower, Stacked}
 use Rattle.path.specs.Seats.{leaf_cut, Halves, halves, Son, son_at}
+use Rattle.column.specs.declared.Later.{Later}
+use Rattle.column.specs.declared.TheConstants.{NO_BLOCK}
 use Rattle.column.specs.Asked.{PutBy, ground, next, Column, GoneOn, Walking, Came, LeafAsked, LeafTold}
 
 -- ---- What is put by is kept by a write after it

@@ -23,13 +23,13 @@ use Rattle.scan.specs.declared.Scan.{Scan}
 use Rattle.scan.specs.declared.Scan.TheVariants as Scanned
 use Rattle.scan.specs.Asked.{none, NoneOn, ScanIs, BestOn}
 use Rattle.scan.specs.Told.{live_on_map}
+use Rattle.path.specs.declared.Fork.{Fork}
 use Rattle.path.specs.declared.Spot.{Spot}
 use Rattle.path.specs.Placed.{Placed}
 use Rattle.path.specs.Asked.{Held}
 use Rattle.path.specs.Ways.{Aside}
-use Rattle.column.specs.Asked.{AtLeaf, Down, LeafTold, later_at, PutBy, ground, next, Column, TakenUp}
-use Rattle.path.specs.declared.Fork.{Fork}
 use Rattle.column.specs.declared.Later.{Later}
+use Rattle.column.specs.Asked.{AtLeaf, Down, LeafTold, later_at, PutBy, ground, next, Column, TakenUp}
 
 -- ---- A leaf
 

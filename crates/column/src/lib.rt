@@ -22,7 +22,7 @@ pub struct Later {
     pub block: Block,
 }
 
-// Past the end of a table of blocks put by.
+// In the places of a table that are not taken, and in its law past its end.
 pub const NO_BLOCK: Later = Later {
     node: 0,
     block: Block {
@@ -73,7 +73,7 @@ pub fn go_down(
     at
 }
 
-// The block put by last.
+// The block put by last, read where it stands: a copy is one number, taken apart by shifts.
 pub fn take_up(later: &[Later], by: usize) -> Spot
     requires { by < length later.now }
     ensures { TakenUp later.now by result }

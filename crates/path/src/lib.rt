@@ -25,7 +25,7 @@ pub struct Fork {
     pub above: Block,
 }
 
-// Past the end of a path.
+// In the places of a path that are not taken, and in its law past its end.
 pub const NO_FORK: Fork = Fork {
     entry: 0,
     above: Block {
@@ -136,7 +136,8 @@ pub fn turn_off(path: &[Fork], p: Point, from: usize, south: bool) -> Option<usi
     None
 }
 
-// The son beside the path at this level: the lower on the way south, the upper on the way north.
+// The son beside the path at this level: the lower on the way south, the upper on the way north. The fork is read where it stands: a copy
+// is one number, taken apart by shifts.
 pub fn beside(index: &[u16], path: &[Fork], level: usize, south: bool) -> Spot
     requires { TurnsOff index.now path.now level }
     ensures { Beside index.now path.now level south result }
