@@ -1,7 +1,7 @@
 // The index of the node table, and the leaf that holds a point.
 #![tactic(auto)]
 
-ghost use Rattle.std.specs.Prelude.{◌+◌, ◌*◌, ◌≤◌, ◌<◌, length};
+ghost use Rattle.std.specs.Prelude.{◌+◌, ◌*◌, ◌≤◌, ◌<◌, length, slice_index};
 ghost use Rattle.definitions.specs.Tree.{Tree};
 ghost use Rattle.walk.specs.Index.{Standing, Indexed, Walkable, Divided, Filled, Put, SonOver, Searchable, LeafOver};
 
@@ -30,16 +30,12 @@ struct Son {
 }
 
 // Four entries of a table, in its place n.
-// stays: (b) handed over as one array they cost lookups 4 to 5 in 100 more instructions, since the four are packed into one number
-pub fn put_four(table: &mut [u16], n: usize, a: u16, b: u16, c: u16, d: u16)
+pub fn put_four(table: &mut [u16], n: usize, four: [u16; 4])
     requires { 4 * n + 4 ≤ length table.old }
-    ensures { Put n a b c d table.old table.new }
+    ensures { Put n (slice_index four 0) (slice_index four 1) (slice_index four 2) (slice_index four 3) table.old table.new }
 {
     let at = 4 * n;
-    table[at] = a;
-    table[at + 1] = b;
-    table[at + 2] = c;
-    table[at + 3] = d;
+    table[at..at + 4].copy_from_slice(&four);
 }
 
 // The entries of a block and of all blocks in it, and the places after it.
@@ -78,10 +74,12 @@ fn index_sons(nodes: &[u16], index: &mut [u16], at: Place) -> Place
     put_four(
         index,
         at.node,
-        nw.node as u16,
-        ne.node as u16,
-        sw.node as u16,
-        se.node as u16,
+        [
+            nw.node as u16,
+            ne.node as u16,
+            sw.node as u16,
+            se.node as u16,
+        ],
     );
     next
 }
