@@ -12,8 +12,7 @@ use definitions::{Half, Point};
 use geometry::{Block, reaches};
 use path::{Spot, entry_of, son_of, strip_of};
 use scan::{Scan, scan_slots};
-use tables::line_at;
-use walk::DIVIDED;
+use tables::{DIVIDED, line_at};
 
 // A block put by, with its node.
 #[derive(Clone, Copy)]
@@ -53,6 +52,7 @@ fn go_on(index: &[u16], later: &mut [Later], p: Point, at: Spot, south: bool) ->
 }
 
 // To the first leaf on the way.
+// stays: beside path::own_leaf, a loop of another step; and the slices as parameters, of which each function here takes others.
 pub fn go_down(
     nodes: &[u16],
     index: &[u16],

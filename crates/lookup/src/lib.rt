@@ -31,7 +31,7 @@ const LEAF: usize = 4;
 const MOST: usize = 512;
 
 // A map to look up in: its tables, the index of its nodes, and its live slots.
-// stays: (c) each method asks for Ready; as a ghost field it is refused, since it holds a rule of division and so is no proposition
+// stays: each method asks for `Ready`. Tried as a ghost field, which is refused: it holds a rule of division, and so is no proposition.
 #[derive(Clone, Copy)]
 struct Map<'a> {
     lines: &'a [u16],
@@ -103,7 +103,6 @@ impl Map<'_> {
 
     // A walk of the column of leaves over p, from its own leaf on. What a leaf costs is asked before it is scanned; if that is not
     // there, a plain search.
-    // stays: (b) the choice of the next block in a function of its own costs a lookup 1.5 in 100 more than before, and 1.1 in place
     fn walk_column(&self, walks: &mut Walks, p: Point, own: Spot, south: bool) -> Option<u32>
         requires { WalkAsked self.now p walks.old.path own }
         ensures found { FoundIs self.now.lines.now south p result }
@@ -206,6 +205,7 @@ impl Map<'_> {
             later: [NO_BLOCK; 16],
             left: MOST,
         };
+        // stays: a point by its two places. Of chunks of two, zipped with the answers, each would be read by place as well.
         for (at, answer) in answers.iter_mut().enumerate() {
             *answer = self.answer_to(&mut walks, points[2 * at], points[2 * at + 1]);
         }
@@ -223,6 +223,7 @@ pub fn answer_all(
     requires { Mapped lines.now nodes.now listings.now × (length points.now ≡ 2 * length answers.old) }
     ensures { answers.new ≡ answers_to lines.now points.now }
 {
+    // stays: arrays, since there is no heap.
     let mut index = [0u16; 65536];
     let mut live = [0u16; 1024];
     let n = live_slots(lines, &mut live);

@@ -7,9 +7,10 @@ ghost use Rattle.path.specs.Asked.{StripOver, SonEntry, SonIs, Entered, GoneIn, 
 
 use definitions::{Half, Point};
 use geometry::{Block, north_east, north_west, south_east, south_west, whole_map};
-use walk::DIVIDED;
+use tables::DIVIDED;
 
 // The half of a block that lies over a point: 0 for the west half, 1 for the east, and its two sons.
+// stays: a number, since it is added to the place of the upper son's entry.
 #[derive(Clone, Copy)]
 pub struct Strip {
     pub which: usize,
@@ -77,6 +78,7 @@ pub fn son_of(two: Strip, upper: bool) -> Block
 }
 
 // Into a divided block, to the son that holds p.
+// stays: beside column::go_on, which puts another block by and goes to the son that is first on a way.
 fn go_in(index: &[u16], path: &mut [Fork], p: Point, at: Spot) -> Spot
     requires { Entered index.now (length path.old) at }
     ensures { GoneIn index.now p at path.old path.new result }
@@ -85,6 +87,7 @@ fn go_in(index: &[u16], path: &mut [Fork], p: Point, at: Spot) -> Spot
     let above = two.above;
     let entry = 4 * at.node + two.which;
     path[at.by] = Fork {
+        // stays: `as`, since an entry fits.
         entry: entry as u16,
         above,
     };
@@ -124,6 +127,7 @@ fn went_up(path: &[Fork], p: Point, level: usize) -> bool
 }
 
 // From so many levels up the path, the first at which a son lies beside it on the way.
+// stays: a `for`. Tried with `find`: that no level above the one found turns off (`passed` of `TurnedOff`) did not close.
 pub fn turn_off(path: &[Fork], p: Point, from: usize, south: bool) -> Option<usize>
     requires { from ≤ length path.now }
     ensures { TurnedOff path.now p south from result }

@@ -12,10 +12,11 @@ use definitions::Point;
 use geometry::{Line, Stand, eastward, higher, stand_of};
 use tables::{line_at, lower_label, row_at, upper_label};
 
+// stays: a Bool for the way, by which every law of the order and of the walk is.
 // Everywhere below, south tells the way from the point: lines below it, the higher first; else lines above it, the lower first.
 
 // What a scan of slots finds: the first line through the point; or, where there is none, the best line on the way.
-// stays: (d) neither case is a failure, and these words say which it is, as `Break` and `Continue` would not
+// stays: neither case is a failure, and these words say which it is, as `Break` and `Continue` would not.
 #[derive(Clone, Copy)]
 pub enum Scan {
     On(u16),
@@ -69,6 +70,7 @@ pub fn scan_slots(lines: &[u16], slots: &[u16], p: Point, c: Option<u16>, south:
 }
 
 // The answer to a point on the line of slot s.
+// stays: a number, here and below, which C reads.
 pub fn answer_on(s: u16) -> u32
     ensures { result ≡ 65536 + s }
 {

@@ -6,10 +6,7 @@ ghost use Rattle.definitions.specs.Tree.{Tree};
 ghost use Rattle.walk.specs.Index.{Standing, Indexed, Walkable, Divided, Filled, Put, SonOver, Searchable, LeafOver};
 
 use definitions::{Half, Point};
-use tables::Place;
-
-// The entry of a divided block in the node table; a leaf's is the number of its listings.
-pub const DIVIDED: u16 = 65535;
+use tables::{DIVIDED, Place};
 
 // A leaf: its block, where its listings start, and how many they are.
 #[derive(Clone, Copy)]
@@ -22,6 +19,7 @@ pub struct Leaf {
 }
 
 // A son of a block: its south-west corner, and which of the four it is, in the order NW, NE, SW, SE.
+// stays: a number, since it is the place of the son's node among the four entries of the index.
 #[derive(Clone, Copy)]
 struct Son {
     west: u16,
@@ -48,6 +46,7 @@ fn index_block(nodes: &[u16], index: &mut [u16], at: Place) -> Place
     let listing = at.listing;
     let count = nodes[node];
     if count != DIVIDED {
+        // stays: `as`, here and below, since every place fits.
         index[4 * node] = listing as u16;
         return Place {
             node: node + 1,
@@ -133,6 +132,7 @@ fn son_over(p: Point, west: u16, south: u16, side: u16) -> Son
 }
 
 // The leaf that holds p: one entry of the index read for each level.
+// stays: beside path::own_leaf, which writes down the path for the walks to come back to.
 pub fn leaf_over(nodes: &[u16], index: &[u16], p: Point) -> Leaf
     requires { Searchable nodes.now index.now }
     ensures { (t : Tree) → Standing nodes.now t 0 0 → Indexed index.now t 0 0 → LeafOver p t result }
