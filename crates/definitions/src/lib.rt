@@ -6,6 +6,7 @@
 pub struct Grid(pub u16);
 
 // A half-step number, 0 to 32,768: grid number g stands at half-step 2g + 1.
+// stays: no order is derived. The definitions compare the numbers within, and so does the code that computes them.
 #[derive(Clone, Copy, PartialEq, Eq)]
 pub struct Half(pub u16);
 

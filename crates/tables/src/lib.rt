@@ -148,6 +148,7 @@ pub fn lower_label(row: Row) -> u16
     }
 }
 
+// stays: entry by entry, here and below, as the definitions of these names read them; an edit leaves one entry out.
 pub fn live_sound(row: Row) -> bool
     ensures { result ≡ live_sound (entries_of row) 0 }
 {
@@ -290,6 +291,7 @@ pub fn free_slot(lines: &[u16]) -> Option<usize>
     first_slot(lines, is_free)
 }
 
+// stays: beside live_sound. This and the next are definitions of their own, of what insert is given.
 pub fn all_on_grid(g: Given) -> bool
     ensures { result ≡ all_on_grid g }
 {

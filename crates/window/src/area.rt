@@ -3,6 +3,7 @@ ghost use Rattle.std.specs.Prelude.{◌≤◌};
 
 use definitions::Half;
 
+// stays: beside definitions::Window, whose numbers may be any.
 #[derive(Clone, Copy)]
 pub struct Area {
     pub west: Half,
