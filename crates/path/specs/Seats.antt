@@ -9,7 +9,7 @@ use Rattle.definitions.specs.Tree.{Rule, Tree, leaf, divided, block, listed, tre
 use Rattle.definitions.specs.Tables.{live_lines}
 use Rattle.plane.specs.Blocks.{double, half_power, some_power}
 use Rattle.meaning.specs.Rules.{by_leaf, by_divided, sons_by}
-use Rattle.walk.specs.Index.{after_nodes, after_listings, ne_first, sw_first, se_first, Stands, leaf_stands, sons_stand, Indexed, leaf_indexed, sons_indexed}
+use Rattle.walk.specs.Index.{after_nodes, after_listings, ne_first, sw_first, se_first, Entries, Stands, leaf_stands, sons_stand, Indexed, leaf_indexed, sons_indexed}
 use Rattle.walk.specs.Placing.{divided_nodes, divided_listings}
 use Rattle.geometry.specs.Means.{block_of}
 use Rattle.path.specs.declared.Spot.{Spot}
@@ -213,3 +213,21 @@ entered q f l =
       east_in = omega (arith, q.east_in);
       north_in = omega (arith, q.north_in);
     }
+
+-- the entries of a place are kept by writes after it
+pub entries_kept : {s s' : List ℕ} {i a b c d : ℕ} → Entries s i a b c d → ((k : ℕ) → k < 4 * suc i → get_or s' k 0 ≡ get_or s k 0) → Entries s' i a b c d
+entries_kept {i = i} e same =
+    record {
+      first = same (4 * i) (omega arith) ∙ e.first;
+      second = same (4 * i + 1) (omega arith) ∙ e.second;
+      third = same (4 * i + 2) (omega arith) ∙ e.third;
+      fourth = same (4 * i + 3) (omega arith) ∙ e.fourth;
+    }
+
+-- and are those of one block
+module _ {later : List ℕ} {i n a b c m x y z : ℕ} (e : Entries later i n a b c) (f : Entries later i m x y z) where
+  pub one_node : n ≡ m
+  one_node = sym e.first ∙ f.first
+
+  pub one_block : ◌≡◌ {A = Block} (record { west = a; south = b; side = c }) (record { west = x; south = y; side = z })
+  one_block = λ t. record { west = (sym e.second ∙ f.second) t; south = (sym e.third ∙ f.third) t; side = (sym e.fourth ∙ f.fourth) t }
