@@ -84,6 +84,7 @@ fn index_sons(nodes: &[u16], index: &mut [u16], at: Place) -> Place
 }
 
 // The index has four entries for each node: for a divided block the nodes of its sons, for a leaf first where its listings start.
+// stays: one array of places, as `Indexed` and all that path and column ask of it read it.
 pub fn index_nodes(nodes: &[u16], index: &mut [u16])
     requires { Walkable nodes.now (length index.old) 0 0 }
     ensures { (t : Tree) → Standing nodes.now t 0 0 → Indexed index.new t 0 0 }
