@@ -46,6 +46,7 @@ pub enum Kind {
 }
 
 // Why a call is refused.
+// stays: the detail of a conflict is one number, kind and slot, as C reads it and as `insert_conflict` in history/Promised says it.
 #[derive(Clone, Copy, PartialEq, Eq)]
 pub enum Refusal {
     Lengths,

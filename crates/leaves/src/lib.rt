@@ -26,7 +26,7 @@ const DEPTH: u16 = 12;
 const ALONE: usize = 1;
 
 // l conflicts with the line of one of the slots.
-// stays: lines and slots as parameters, here and below. Tried as a struct: each part of the slots that is handed on is then a literal of five lines.
+// stays: lines and slots as parameters with `Good` asked of them, here and below. Tried as a struct: each part of the slots that is handed on is then a literal of five lines.
 pub fn conflicts_with(lines: &[u16], slots: &[u16], l: Line) -> bool
     requires { Good lines.now slots.now × (same_point l.a l.b ≡ false) × LineEnds (line_of l) }
     ensures { result ≡ not (clear_of lines.now (line_of l) slots.now) }
@@ -74,6 +74,7 @@ pub fn leaves_left(l: Line, v: Point, w: Point) -> bool
 }
 
 // The slots whose lines leave v on this side of the way to w, at the front of kept, and how many.
+// stays: a Bool for the side, as `on_side` has it.
 // stays: the count beside the buffer. `Kept` says what the buffer holds afterwards, which no clause can say of one that is handed on as a slice.
 pub fn keep(lines: &[u16], slots: &[u16], kept: &mut [u16], v: Point, w: Point, side: bool) -> usize
     requires { Good lines.now slots.now × (length slots.now ≤ length kept.old) × End v × End w }

@@ -170,6 +170,7 @@ impl Map<'_> {
         }
     }
 
+    // stays: numbers, here and below, which C reads.
     // The answer to a point of the grid: that of the first way on which anything is found, south and then north.
     fn answer_at(&self, walks: &mut Walks, p: Point) -> u32
         requires { Ready self.now × End p }

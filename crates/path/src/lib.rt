@@ -64,6 +64,7 @@ pub fn strip_of(p: Point, k: Block) -> Strip
 }
 
 // The lower son's place among the four entries of the index is 2 after that of the upper.
+// stays: a Bool for the upper son, as `SonEntry` and `SonIs` have it.
 pub fn entry_of(entry: usize, upper: bool) -> usize
     requires { entry < 65536 }
     ensures { SonEntry entry upper result }

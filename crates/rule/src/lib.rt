@@ -22,7 +22,7 @@ pub fn hangs_on(k: Block, l: Line, v: Point) -> bool
     same_point(l.b, v) & !inside(k, l.a)
 }
 
-// stays: lines, slots and k as parameters, here and below. Of a struct `simple` would make one anew for the slots after the first.
+// stays: lines, slots and k as parameters with `Candidates` asked of them, here and below. Of a struct `simple` would make one anew for the slots after the first.
 pub fn all_hang_on(lines: &[u16], slots: &[u16], k: Block, v: Point) -> bool
     requires { Candidates lines.now (block_of k) slots.now }
     ensures { result ≡ every (hangs_at lines.now (block_of k) v) slots.now }

@@ -190,6 +190,7 @@ pub fn line_of_row(row: Row) -> Line
     line_of(row.x1, row.y1, row.x2, row.y2)
 }
 
+// stays: `OnMap` is asked, here and in other crates, and is no type: a table and a slot are whatever is lent.
 pub fn line_at(lines: &[u16], slot: u16) -> Line
     requires { OnMap lines.now slot }
     ensures { IsLine lines.now slot result }
@@ -238,6 +239,7 @@ pub fn slots_sound(lines: &[u16]) -> bool
 }
 
 // The slots whose row passes the test, rising, at the front of `to`, and how many.
+// stays: the length is asked, here and in its callers, and is no type: a line table may have any.
 pub fn gather<F: Fn(Row) -> bool>(lines: &[u16], to: &mut [u16], test: F) -> usize
     requires room { (length lines.now ≤ 8192) × (length lines.now ≤ 8 * length to.old) }
     requires asked { Asked (F.pre test) lines.now }

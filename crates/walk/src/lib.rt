@@ -36,6 +36,7 @@ pub fn put_four(table: &mut [u16], n: usize, four: [u16; 4])
     table[at..at + 4].copy_from_slice(&four);
 }
 
+// stays: `Walkable` is asked, here and in showing, and is no type: a node table is whatever is lent.
 // The entries of a block and of all blocks in it, and the places after it.
 #[cycle(index_block_index_sons)]
 fn index_block(nodes: &[u16], index: &mut [u16], at: Place) -> Place
