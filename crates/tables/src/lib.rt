@@ -335,7 +335,7 @@ pub fn copy(from: &[u16], to: &mut [u16])
     requires { length from.now ≤ length to.old }
     ensures { to.new ≡ over 0 from.now to.old }
 {
-    // stays: a loop. With copy_from_slice building the tree takes 1.2 percent more instructions, since leaves' lists are short.
+    // stays: a loop. With copy_from_slice a check of the hub takes 1.2 percent more instructions, since the lists of leaves are short.
     for (i, entry) in from.iter().enumerate() {
         to[i] = *entry;
     }
