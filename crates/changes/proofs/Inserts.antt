@@ -78,5 +78,5 @@ module _ {rule : Rule} {lines nodes listings : List ℕ} {slot : ℕ} {g : Given
       left_out {b} p q =
           let u : Put rule t (with_slot lines slot (entries_of row')) (tables l n s) false = subst (λ (x : Bool). Put rule t (with_slot lines slot (entries_of row')) (tables l n s) x) q p in
           let m = first_at _ w.free in
-          (λ i. record { answer = (Err NoRoom); after = u.1 i })
+          (λ i. record { answer = Err NoRoom; after = u.1 i })
           ∙ sym (insert_7 rule t g w.passed.fit w.passed.ok w.grid w.long w.clear slot m.0 m.1 (subst (λ (z : List ℕ). room_for rule t z ≡ false) is_placed u.0))

@@ -42,12 +42,12 @@ module _ (rule : Rule) (t : Tables) where
         delete_0 e = rw (fit, ok, e) refl
 
   module _ (points answers : List ℕ) where
-    pub locate_1 : (lengths_fit t && eqb (length points) (2 * length answers)) ≡ false → locate_of rule t points answers ≡ record { answer = (Err Lengths); answers = answers }
+    pub locate_1 : (lengths_fit t && eqb (length points) (2 * length answers)) ≡ false → locate_of rule t points answers ≡ record { answer = Err Lengths; answers = answers }
     unfolding locate_of
     locate_1 e = rw e refl
 
     module _ (fit : (lengths_fit t && eqb (length points) (2 * length answers)) ≡ true) where
-      pub locate_2 : sound rule t ≡ false → locate_of rule t points answers ≡ record { answer = (Err Damaged); answers = answers }
+      pub locate_2 : sound rule t ≡ false → locate_of rule t points answers ≡ record { answer = Err Damaged; answers = answers }
       unfolding locate_of
       locate_2 e = rw (fit, e) refl
 
