@@ -3,7 +3,7 @@ use std::io;
 use steps::case::Case;
 
 // Slot 0 rises by 1 over 2, slot 1 is freed again, slot 2 is upright, slot 3 is drawn westward.
-fn drawn<R: Print + Drop>(rt: R, name: &str) -> io::Result<Case<R>> {
+fn drawn<R: Print + Drop>(rt: R, name: &[u8]) -> io::Result<Case<R>> {
     let mut case = Case::small(rt, name)?;
     case.add([4000, 4000, 12000, 8000])?;
     case.add([0, 16000, 16000, 16000])?;
@@ -16,23 +16,23 @@ fn drawn<R: Print + Drop>(rt: R, name: &str) -> io::Result<Case<R>> {
 // Each window with a list of two, both 9.
 fn seen(case: &Case<impl Print + Drop>, windows: &[[u16; 4]]) -> io::Result<()> {
     for &window in windows {
-        case.view(window, [9; 2])?;
+        case.view(window, &mut [9; 2])?;
     }
     Ok(())
 }
 
 // A list of the exact length, and a longer one, whose later entries stay; where no line is, none will do.
 fn whole_map(rt: &impl Print) -> io::Result<()> {
-    let case = drawn(rt, "the whole map in a window")?;
-    case.view([0, 0, 16383, 16383], [9; 3])?;
-    case.view([0, 0, 16383, 16383], [9; 5])?;
-    case.view([0, 16000, 16000, 16000], [])?;
+    let case = drawn(rt, b"the whole map in a window")?;
+    case.view([0, 0, 16383, 16383], &mut [9; 3])?;
+    case.view([0, 0, 16383, 16383], &mut [9; 5])?;
+    case.view([0, 16000, 16000, 16000], &mut [])?;
     case.end()
 }
 
 // At an end of slot 2, and one step off each way; on slot 0 between its ends, which passes the rectangle's other corners by.
 fn corners(rt: &impl Print) -> io::Result<()> {
-    let case = drawn(rt, "a corner of the window on a line")?;
+    let case = drawn(rt, b"a corner of the window on a line")?;
     let windows = [
         [8000, 12000, 9000, 13000],
         [8001, 12000, 9000, 13000],
@@ -48,7 +48,7 @@ fn corners(rt: &impl Print) -> io::Result<()> {
 
 // South, north, west and east.
 fn sides(rt: &impl Print) -> io::Result<()> {
-    let case = drawn(rt, "an end on a side of the window")?;
+    let case = drawn(rt, b"an end on a side of the window")?;
     let windows = [
         [7000, 12000, 9000, 13000],
         [7000, 8500, 9000, 9000],
@@ -61,7 +61,7 @@ fn sides(rt: &impl Print) -> io::Result<()> {
 
 // On slot 2 and beside it, on slot 0 and above it, at an end; then a level segment, and one along slot 2, short of it.
 fn points(rt: &impl Print) -> io::Result<()> {
-    let case = drawn(rt, "one point and one segment")?;
+    let case = drawn(rt, b"one point and one segment")?;
     let windows = [
         [8000, 10000, 8000, 10000],
         [8001, 10000, 8001, 10000],
@@ -77,7 +77,7 @@ fn points(rt: &impl Print) -> io::Result<()> {
 
 // Slot 3 passes the south-east and the north-west corner by less than half a step; and a step on.
 fn near(rt: &impl Print) -> io::Result<()> {
-    let case = drawn(rt, "a corner of the window beside a line")?;
+    let case = drawn(rt, b"a corner of the window beside a line")?;
     let windows = [
         [0, 1001, 16, 1500],
         [0, 1001, 17, 1500],

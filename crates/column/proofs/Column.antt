@@ -78,6 +78,9 @@ module _ {lines nodes listings index : List ℕ} {later : List Later} {d : Bool}
 -- ---- From spot to spot
 
 module _ {nodes index : List ℕ} {d : Bool} {p : Point} where
+  pub came_here : {later : List Later} {at : Spot} → Came nodes index p at d later later at
+  came_here = record { stands = λ h. h; near_is = refl }
+
   pub came_on : {later₀ later later' : List Later} {at₀ at r : Spot} → Came nodes index p at₀ d later₀ later at → Walking nodes index later p at d → get_or nodes at.node 0 ≡ 65535 → GoneOn index p at d later later' r → Came nodes index p at₀ d later₀ later' r
   came_on c w e g = record { stands = λ h. into (c.stands h) e g; near_is = begins w.column e g ∙ c.near_is }
 

@@ -1,7 +1,9 @@
 -- A reply told as one number, with the tables or the list.
-use mathlib.Core.Path.{◌≡◌, ap, ◌∙◌}
+use mathlib.Core.Path.{◌≡◌, sym, ap, ◌∙◌}
 use mathlib.Core.List.{List}
-use Prim.Native.Nat.{ℕ}
+use Prim.Native.Nat.{ℕ, ◌+◌, ◌*◌}
+use native.Mathlib.Omega.{arith}
+use Rattle.std.specs.Prelude.{Ok}
 use Rattle.definitions.specs.Answer.{Answer}
 use Rattle.definitions.specs.Calls.{Reply, number_of}
 use Rattle.definitions.specs.Lookup.{Located}
@@ -17,3 +19,9 @@ answers {l = l} e q = (λ i. record { number = e i; answers = l }) ∙ ap counte
 
 pub lists : {a : Answer} {n : ℕ} {l : List ℕ} {y : Windowed} → n ≡ number_of a → Windows a l y → Lists n l y
 lists {l = l} e q = (λ i. record { number = e i; slots = l }) ∙ ap listed q
+
+pub done : {a : Answer} {d : ℕ} → a ≡ Ok d → d ≡ number_of a
+done {d = d} e = plain d ∙ sym (ap number_of e)
+  where
+    plain : (d : ℕ) → d ≡ 0 * 4294967296 + d
+    plain d = omega arith

@@ -36,6 +36,9 @@ module _ (f : ℕ → ℕ) (slots : List ℕ) where
     pub whole : sum_of f slots ≡ x + sum_of f (drop i slots)
     pub small : x ≤ 65535 * i
 
+  pub summed_start : Summed 0 0
+  summed_start = record { whole = omega arith; small = omega arith }
+
 module _ {f : ℕ → ℕ} {slots : List ℕ} {x i : ℕ} where
   pub summed_turn : {n : ℕ} → i < length slots → n ≡ f (get_or slots i 0) → n ≤ 65535 → Summed f slots x i → Summed f slots (x + n) (i + 1)
   unfolding sum_of

@@ -1,7 +1,7 @@
 -- The laws of the answers to pairs of grid numbers, one after another.
 use Rattle.std.specs.Prelude.{if◌then◌else◌}
 use mathlib.Core.Path.{◌≡◌, sym, ap, ap₂, ◌∙◌}
-use mathlib.Core.Bool.{Bool, ◌&&◌}
+use mathlib.Core.Bool.{Bool, true, ◌&&◌}
 use mathlib.Core.List.{List, ◌∷◌, ◌++◌, append-nil}
 use Prim.Native.Nat.{ℕ, suc, ◌+◌, ◌*◌, ◌≤◌, ◌<◌}
 use native.Mathlib.Numerals.{add-one}
@@ -9,12 +9,17 @@ use native.Mathlib.Omega.{arith}
 use lib.Dec.{leb}
 use lib.ListN.{length, take, drop, get_or, set, drop_of_length-le}
 use lib.Seq.{drop-cons, take-suc-set, take_all, append_snoc}
+use borrow.Author.Tests.{leb-true}
+use Rattle.algebra.specs.Tests.{both→}
 use Rattle.definitions.specs.Shape.{grid_point}
 use Rattle.definitions.specs.Lookup.{answer_at, answer_to, answers_to}
 
 -- ---- One pair
 
 module _ (x y : ℕ) {a b : Bool} (e : a ≡ leb x 16383) (f : b ≡ leb y 16383) where
+  pub both_on_grid : a && b ≡ true → (x ≤ 16383) × (y ≤ 16383)
+  both_on_grid h = let t = both→ a b h in (leb-true _ _ (sym e ∙ t.0), leb-true _ _ (sym f ∙ t.1))
+
   pub answer_is : (lines : List ℕ) {t : Bool} → a && b ≡ t → (if t then answer_at lines (grid_point x y) else 4294967295) ≡ answer_to lines x y
   unfolding answer_to
   answer_is lines h = ap (λ (t : Bool). if t then answer_at lines (grid_point x y) else 4294967295) (sym h ∙ ap₂ ◌&&◌ e f)

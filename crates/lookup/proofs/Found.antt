@@ -11,8 +11,12 @@ use Rattle.definitions.specs.Lookup.{on_line, answering, answer_of, answer_at}
 use Rattle.meaning.specs.Found.{Found}
 use Rattle.std.specs.Prelude.{Option, None, Some}
 use Rattle.meaning.specs.Column.{found_below, found_above, found_none}
-use Rattle.scan.specs.Asked.{label_by, BestOn}
-use Rattle.lookup.specs.Asked.{ToldBy, Turn, at_once, none_below, FoundIs}
+use Rattle.scan.specs.Asked.{label_by, Plain, BestOn}
+use Rattle.lookup.specs.declared.Map.{Map}
+use Rattle.lookup.specs.Asked.{Ready, ToldBy, Turn, at_once, none_below, FoundIs}
+
+pub ready_plain : {map : Map} → Ready map → Plain map.lines.now map.live.now
+ready_plain r = record { slots = r.chart.map.sound.slots; apart = r.chart.map.sound.apart; all = r.all }
 
 module _ {lines : List ℕ} {p : Point} where
   -- a line through p

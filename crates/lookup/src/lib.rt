@@ -42,7 +42,7 @@ struct Map<'a> {
 }
 
 // What walks share: the path to the leaf of a point, the blocks put by, and what is left to pay for walks with.
-#[derive(Drop)]
+#[derive(Clone, Copy)]
 struct Walks {
     path: [Fork; 16],
     later: [Later; 16],

@@ -10,9 +10,10 @@ use lib.ListN.{length}
 use borrow.Author.Tests.{eqb-true, eq-eqb}
 use Rattle.algebra.specs.Tests.{no_path, false_by, both→, both←}
 use Rattle.definitions.specs.Lookup.{Located}
-use Rattle.definitions.specs.Tables.{Tables, lengths_fit}
+use Rattle.definitions.specs.Tables.{Tables, lengths_fit, sound}
 use Rattle.tables.specs.Lent.{Locates}
 use Rattle.definitions.specs.declared.Refusal.{Refusal}
+use Rattle.definitions.specs.declared.Refusal.TheVariants.{Damaged}
 use Rattle.definitions.specs.Lookup.{locate_of}
 use Rattle.definitions.specs.Tree.{Rule}
 use Rattle.soundness.specs.Checked.{Checked, short as cut, damaged}
@@ -39,6 +40,11 @@ twice points answers p q = omega arith
 
 pub all_fit : (t : Tables) (points answers : List ℕ) → lengths_fit t ≡ true → length points ≡ 2 * length answers → (lengths_fit t && eqb (length points) (2 * length answers)) ≡ true
 all_fit t points answers e f = both← e (eq-eqb (length points) (2 * length answers) f)
+
+-- for the search: what is owed of a damaged map, by the two tests themselves
+pub told_damaged : (rule : Rule) (t : Tables) (points answers : List ℕ) → lengths_fit t ≡ true → sound rule t ≡ false → length points % 2 ≡ 0 → length points / 2 ≡ length answers
+    → locate_of rule t points answers ≡ record { answer = Err Damaged; answers = answers }
+told_damaged rule t points answers f e p q = locate_2 rule t points answers (all_fit t points answers f (twice points answers p q)) e
 
 pub located : {answers answers' : List ℕ} {y : Located} → answers ≡ answers' → y ≡ record { answer = Ok 0; answers = answers' } → Locates (Ok 0) answers y
 located e q = (λ i. record { answer = Ok 0; answers = e i }) ∙ sym q

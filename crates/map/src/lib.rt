@@ -48,6 +48,7 @@ pub fn delete(lines: &mut [u16], nodes: &mut [u16], listings: &mut [u16], handle
     Ok(0)
 }
 
+#[tactic(auto, using(crate::proofs::Locates::told_damaged))]
 pub fn locate(
     lines: &[u16],
     nodes: &[u16],

@@ -1,6 +1,6 @@
 -- The laws of the path: to go into a block that holds p keeps it.
 use mathlib.Core.Path.{◌≡◌, refl, sym, ap, ◌∙◌}
-use mathlib.Core.Bool.{Bool, true, false}
+use mathlib.Core.Bool.{Bool, true, false, not, beq}
 use mathlib.Core.List.{List}
 use Prim.Native.Nat.{ℕ, ◌+◌, ◌≤◌, ◌<◌}
 use native.Mathlib.Omega.{arith}
@@ -8,6 +8,7 @@ use lib.Dec.{ltb}
 use lib.ListN.{length, get_or, set}
 use Rattle.std.proofs.lemmas.List.{get_or-set_same, get_or-set_other}
 use borrow.Author.Tests.{ltb-true, ltb-false}
+use Rattle.algebra.specs.Tests.{no_path}
 use Rattle.definitions.specs.declared.Point.{Point}
 use Rattle.definitions.specs.Shape.{Block, north, whole_map}
 use Rattle.geometry.specs.Means.{block_of}
@@ -73,3 +74,17 @@ module _ {lines nodes listings index : List ℕ} {path : List Fork} {p : Point} 
 
     pub in_less : r.block.side < at.block.side
     in_less = gone.less
+
+-- ---- Whether two tests agree
+
+pub alike : (a b : Bool) → beq a b ≡ true → a ≡ b
+alike true true e = refl
+alike true false e = no_path e
+alike false true e = no_path e
+alike false false e = refl
+
+pub unlike : (a b : Bool) → beq a b ≡ false → a ≡ not b
+unlike true true e = no_path (sym e)
+unlike true false e = refl
+unlike false true e = refl
+unlike false false e = no_path (sym e)

@@ -9,7 +9,7 @@ fn draw(case: &mut Case<impl Print + Drop>) -> io::Result<()> {
     case.labelled([0, 0, 16383, 16383], 7, 9)
 }
 
-fn diagonal<R: Print + Drop>(rt: R, name: &str) -> io::Result<Case<R>> {
+fn diagonal<R: Print + Drop>(rt: R, name: &[u8]) -> io::Result<Case<R>> {
     let mut case = Case::small(rt, name)?;
     draw(&mut case)?;
     Ok(case)
@@ -17,14 +17,14 @@ fn diagonal<R: Print + Drop>(rt: R, name: &str) -> io::Result<Case<R>> {
 
 // Its tables.
 fn tables(case: &Case<impl Print + Drop>) -> io::Result<()> {
-    case.part(&case.lines, 0..8)?;
+    case.part(&case.lines.entries, 0..8)?;
     case.tree(5, 4)?;
     case.end()
 }
 
 // 31 is no number of slots of 8.
 fn torn_slot(rt: &impl Print) -> io::Result<()> {
-    let mut case = diagonal(rt, "1 line table of 31")?;
+    let mut case = diagonal(rt, b"1 line table of 31")?;
     case.lines.lent = 31;
     case.add([0, 5, 0, 9])?;
     tables(&case)
@@ -32,12 +32,12 @@ fn torn_slot(rt: &impl Print) -> io::Result<()> {
 
 // Each table but one is of a length that would do.
 fn not_started(rt: &impl Print) -> io::Result<()> {
-    let lengths = [
-        ("1 no slot lent", 0, 200, 200),
-        ("1 no node lent", 32, 0, 200),
-        ("1 16385 nodes", 8, 16385, 4),
-        ("1 16385 listings", 8, 5, 16385),
-        ("1 1025 slots", 8200, 5, 4),
+    let lengths: [(&[u8], usize, usize, usize); 5] = [
+        (b"1 no slot lent", 0, 200, 200),
+        (b"1 no node lent", 32, 0, 200),
+        (b"1 16385 nodes", 8, 16385, 4),
+        (b"1 16385 listings", 8, 5, 16385),
+        (b"1 1025 slots", 8200, 5, 4),
     ];
     for (name, lines, nodes, listings) in lengths {
         let mut case = Case::lent(rt, name, lines, nodes, listings)?;
@@ -49,20 +49,20 @@ fn not_started(rt: &impl Print) -> io::Result<()> {
 
 // The answer list keeps its 7.
 fn odd_points(rt: &impl Print) -> io::Result<()> {
-    let case = Case::small(rt, "1 an odd point list")?;
-    case.look(&[5, 5, 5], [7])?;
+    let case = Case::small(rt, b"1 an odd point list")?;
+    case.look(&[5, 5, 5], &mut [7])?;
     case.end()
 }
 
 fn not_half(rt: &impl Print) -> io::Result<()> {
-    let case = Case::small(rt, "1 answers not half")?;
-    case.look(&[5, 5], [7; 2])?;
+    let case = Case::small(rt, b"1 answers not half")?;
+    case.look(&[5, 5], &mut [7; 2])?;
     case.end()
 }
 
 // Only 0 and 1 are live entries; the damage is left as it is.
 fn live_two(rt: &impl Print) -> io::Result<()> {
-    let mut case = diagonal(rt, "2 live entry 2")?;
+    let mut case = diagonal(rt, b"2 live entry 2")?;
     case.lines.entries[0] = 2;
     case.add([0, 5, 0, 9])?;
     tables(&case)
@@ -70,7 +70,7 @@ fn live_two(rt: &impl Print) -> io::Result<()> {
 
 // Handle 0 would fit slot 0 and generation 0, but no live slot has that.
 fn generation_zero(rt: &impl Print) -> io::Result<()> {
-    let mut case = diagonal(rt, "2 generation 0")?;
+    let mut case = diagonal(rt, b"2 generation 0")?;
     case.lines.entries[1] = 0;
     case.remove(0)?;
     tables(&case)
@@ -78,7 +78,7 @@ fn generation_zero(rt: &impl Print) -> io::Result<()> {
 
 // Slot 1 is not live and has 1 as its right label.
 fn label_left(rt: &impl Print) -> io::Result<()> {
-    let mut case = diagonal(rt, "2 a label in an empty slot")?;
+    let mut case = diagonal(rt, b"2 a label in an empty slot")?;
     case.lines.entries[15] = 1;
     case.show(0, 0)?;
     case.end()
@@ -86,15 +86,15 @@ fn label_left(rt: &impl Print) -> io::Result<()> {
 
 // The tree has 4 listings; the fifth must be 0.
 fn entry_after(rt: &impl Print) -> io::Result<()> {
-    let mut case = diagonal(rt, "2 an entry after the last used")?;
+    let mut case = diagonal(rt, b"2 an entry after the last used")?;
     case.listings.entries[4] = 1;
-    case.look(&[5, 5], [7])?;
+    case.look(&[5, 5], &mut [7])?;
     case.end()
 }
 
 // The NW leaf with none, as half-open blocks would have it; damage comes before the off-grid coordinate.
 fn wrong_count(rt: &impl Print) -> io::Result<()> {
-    let mut case = diagonal(rt, "2 a leaf's count")?;
+    let mut case = diagonal(rt, b"2 a leaf's count")?;
     case.nodes.entries[1] = 0;
     case.add([16384, 5, 0, 9])?;
     case.end()
@@ -102,7 +102,7 @@ fn wrong_count(rt: &impl Print) -> io::Result<()> {
 
 // Twice the line along the south, with the tree of both: no count is wrong, but they conflict.
 fn equal_lines(rt: &impl Print) -> io::Result<()> {
-    let mut case = Case::small(rt, "2 equal lines in the right tree")?;
+    let mut case = Case::small(rt, b"2 equal lines in the right tree")?;
     case.add([0, 0, 16383, 0])?;
     case.lines.entries[8] = 1;
     case.lines.entries[9] = 1;
@@ -111,37 +111,37 @@ fn equal_lines(rt: &impl Print) -> io::Result<()> {
     case.nodes.entries[4] = 2;
     case.listings.entries[1] = 1;
     case.listings.entries[3] = 1;
-    case.look(&[5, 5], [7])?;
+    case.look(&[5, 5], &mut [7])?;
     case.end()
 }
 
 fn off_grid(rt: &impl Print) -> io::Result<()> {
-    let mut case = diagonal(rt, "3 off the grid")?;
+    let mut case = diagonal(rt, b"3 off the grid")?;
     case.add([0, 5, 16384, 9])?;
     tables(&case)?;
-    let mut case = diagonal(rt, "3 before 4")?;
+    let mut case = diagonal(rt, b"3 before 4")?;
     case.add([16384, 5, 16384, 5])?;
     case.end()?;
-    let case = diagonal(rt, "3 leaf off the grid")?;
+    let case = diagonal(rt, b"3 leaf off the grid")?;
     case.show(0, 16384)?;
     case.end()
 }
 
 // The point is on the diagonal too, but 4 is tested before 5.
 fn no_length(rt: &impl Print) -> io::Result<()> {
-    let mut case = diagonal(rt, "4 no length, before 5")?;
+    let mut case = diagonal(rt, b"4 no length, before 5")?;
     case.add([5, 5, 5, 5])?;
     tables(&case)
 }
 
 // The diagonals share the map's middle, which is no grid point.
 fn crossing(rt: &impl Print) -> io::Result<()> {
-    let mut case = diagonal(rt, "5 crossing at a block corner")?;
+    let mut case = diagonal(rt, b"5 crossing at a block corner")?;
     case.add([0, 16383, 16383, 0])?;
     tables(&case)
 }
 
-fn three_levels<R: Print + Drop>(rt: R, name: &str) -> io::Result<Case<R>> {
+fn three_levels<R: Print + Drop>(rt: R, name: &[u8]) -> io::Result<Case<R>> {
     let mut case = Case::small(rt, name)?;
     case.add([0, 1000, 100, 1000])?;
     case.add([0, 2000, 100, 2000])?;
@@ -151,14 +151,14 @@ fn three_levels<R: Print + Drop>(rt: R, name: &str) -> io::Result<Case<R>> {
 
 // Across slots 1 and 2, then across all three from the north.
 fn lowest_slot(rt: &impl Print) -> io::Result<()> {
-    let mut case = three_levels(rt, "5 the lowest slot")?;
+    let mut case = three_levels(rt, b"5 the lowest slot")?;
     case.add([50, 1500, 50, 3500])?;
     case.add([50, 3500, 50, 500])?;
     case.end()
 }
 
 // A line, and then another.
-fn two_lines(rt: &impl Print, name: &str, first: [u16; 4], second: [u16; 4]) -> io::Result<()> {
+fn two_lines(rt: &impl Print, name: &[u8], first: [u16; 4], second: [u16; 4]) -> io::Result<()> {
     let mut case = Case::small(rt, name)?;
     case.add(first)?;
     case.add(second)?;
@@ -167,11 +167,11 @@ fn two_lines(rt: &impl Print, name: &str, first: [u16; 4], second: [u16; 4]) -> 
 
 // Overlap: they share an end, and points beside it. Touching: the older end lies within the new line. Crossing: at height 0.5.
 fn three_kinds(rt: &impl Print) -> io::Result<()> {
-    two_lines(rt, "5 part of a line", [0, 0, 10, 0], [0, 0, 5, 0])?;
-    two_lines(rt, "5 over an end", [5, 0, 5, 5], [0, 0, 10, 0])?;
+    two_lines(rt, b"5 part of a line", [0, 0, 10, 0], [0, 0, 5, 0])?;
+    two_lines(rt, b"5 over an end", [5, 0, 5, 5], [0, 0, 10, 0])?;
     two_lines(
         rt,
-        "5 crossing between grid points",
+        b"5 crossing between grid points",
         [0, 0, 10, 1],
         [5, 0, 5, 1],
     )
@@ -180,22 +180,27 @@ fn three_kinds(rt: &impl Print) -> io::Result<()> {
 // Under the first at x = 5 and 6, half a grid step away. In half-steps the first is at height 2 over x = 11, so it
 // meets the smallest block about (11,1), and at 2.1 over x = 12, past the one about (13,1).
 fn near_miss(rt: &impl Print) -> io::Result<()> {
-    let mut case = Case::small(rt, "a near miss")?;
+    let mut case = Case::small(rt, b"a near miss")?;
     case.add([0, 0, 10, 1])?;
     case.add([5, 0, 6, 0])?;
     case.show(5, 0)?;
     case.show(6, 0)?;
     case.end()?;
-    two_lines(rt, "in one direction, apart", [0, 0, 10, 0], [11, 0, 20, 0])
+    two_lines(
+        rt,
+        b"in one direction, apart",
+        [0, 0, 10, 0],
+        [11, 0, 20, 0],
+    )
 }
 
 // Lent one slot, which is live: a line beside the diagonal, and one across it.
 fn no_slot(rt: &impl Print) -> io::Result<()> {
-    let mut case = Case::lent(rt, "6 no slot", 8, 200, 200)?;
+    let mut case = Case::lent(rt, b"6 no slot", 8, 200, 200)?;
     draw(&mut case)?;
     case.add([0, 5, 0, 9])?;
     tables(&case)?;
-    let mut case = Case::lent(rt, "5 before 6", 8, 200, 200)?;
+    let mut case = Case::lent(rt, b"5 before 6", 8, 200, 200)?;
     draw(&mut case)?;
     case.add([0, 16383, 16383, 0])?;
     case.end()
@@ -203,7 +208,7 @@ fn no_slot(rt: &impl Print) -> io::Result<()> {
 
 // Two ends in one quarter need more than 5 nodes.
 fn no_room(rt: &impl Print) -> io::Result<()> {
-    let mut case = Case::lent(rt, "7 no room", 32, 5, 4)?;
+    let mut case = Case::lent(rt, b"7 no room", 32, 5, 4)?;
     draw(&mut case)?;
     case.add([0, 5, 0, 9])?;
     tables(&case)
@@ -211,7 +216,7 @@ fn no_room(rt: &impl Print) -> io::Result<()> {
 
 // Slot 4 of four; slot 1, not live; slot 0 at another generation.
 fn unknown(rt: &impl Print) -> io::Result<()> {
-    let mut case = diagonal(rt, "8 unknown handle")?;
+    let mut case = diagonal(rt, b"8 unknown handle")?;
     for handle in [262145, 65537, 2] {
         case.remove(handle)?;
     }
@@ -220,40 +225,40 @@ fn unknown(rt: &impl Print) -> io::Result<()> {
 
 // Inverted each way, and a coordinate off the grid, before the list is asked for; damage comes first. The list keeps its 7.
 fn bad_window(rt: &impl Print) -> io::Result<()> {
-    let case = diagonal(rt, "9 bad window")?;
-    case.view([9, 0, 8, 16383], [7])?;
-    case.view([0, 9, 16383, 8], [7])?;
-    case.view([0, 0, 16384, 16383], [])?;
-    case.view([0, 16384, 16383, 16384], [])?;
+    let case = diagonal(rt, b"9 bad window")?;
+    case.view([9, 0, 8, 16383], &mut [7])?;
+    case.view([0, 9, 16383, 8], &mut [7])?;
+    case.view([0, 0, 16384, 16383], &mut [])?;
+    case.view([0, 16384, 16383, 16384], &mut [])?;
     case.end()?;
-    let mut case = diagonal(rt, "2 before 9")?;
+    let mut case = diagonal(rt, b"2 before 9")?;
     case.nodes.entries[1] = 0;
-    case.view([9, 0, 8, 16383], [7])?;
+    case.view([9, 0, 8, 16383], &mut [7])?;
     case.end()
 }
 
 // Two lines in the window, and room for one; where one is in it, the list does.
 fn short_list(rt: &impl Print) -> io::Result<()> {
-    let mut case = diagonal(rt, "10 list short")?;
+    let mut case = diagonal(rt, b"10 list short")?;
     case.add([0, 5, 0, 9])?;
-    case.view([0, 0, 16383, 16383], [7])?;
-    case.view([0, 6, 3, 9], [7])?;
+    case.view([0, 0, 16383, 16383], &mut [7])?;
+    case.view([0, 6, 3, 9], &mut [7])?;
     case.end()
 }
 
 // Slot 0 was freed at the last generation: slot 1 is taken.
 fn retired(rt: &impl Print) -> io::Result<()> {
-    let mut case = Case::small(rt, "a retired slot")?;
+    let mut case = Case::small(rt, b"a retired slot")?;
     case.lines.entries[1] = 65535;
     case.labelled([0, 0, 16383, 0], 3, 4)?;
-    case.part(&case.lines, 0..16)?;
+    case.part(&case.lines.entries, 0..16)?;
     case.tree(5, 2)?;
     case.end()
 }
 
 // The lowest free slot at the next generation; its older handle stays unknown.
 fn used_again(rt: &impl Print) -> io::Result<()> {
-    let mut case = three_levels(rt, "a slot used again")?;
+    let mut case = three_levels(rt, b"a slot used again")?;
     case.remove(65537)?;
     case.add([0, 2000, 100, 2000])?;
     case.remove(65537)?;
@@ -263,7 +268,7 @@ fn used_again(rt: &impl Print) -> io::Result<()> {
 
 // Generations begin anew after start.
 fn started_again(rt: &impl Print) -> io::Result<()> {
-    let mut case = diagonal(rt, "start clears")?;
+    let mut case = diagonal(rt, b"start clears")?;
     case.remove(1)?;
     case.add([0, 0, 16383, 16383])?;
     case.start()?;

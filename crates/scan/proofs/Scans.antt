@@ -99,6 +99,9 @@ pub record Onward (lines slots : List ℕ) (d : Bool) (p : Point) (c best : Foun
   pub scans : scan lines (counts d p) (ahead_by_turns d) c slots ≡ scan lines (counts d p) (ahead_by_turns d) best (drop i slots)
   pub on_way : OnWay lines d p best
 
+pub onward_start : {lines slots : List ℕ} {d : Bool} {p : Point} {c : Found} → OnWay lines d p c → Onward lines slots d p c c 0
+onward_start u = record { firsts = refl; scans = refl; on_way = u }
+
 module _ {lines slots : List ℕ} {d : Bool} {p : Point} {c best : Found} {i : ℕ} (h : Onward lines slots d p c best i) where
   pub onward_end : length slots ≤ i → NoneOn lines d p c slots best
   unfolding first_on scan

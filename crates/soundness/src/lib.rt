@@ -30,6 +30,8 @@ fn built_same(t: Lent, built: &mut [u16], named: &mut [u16]) -> bool
     !conflicts_in_leaves(t, end.node)
 }
 
+// Apart: a call that is refused before it needs the arrays takes no stack for them.
+#[inline(never)]
 fn trees_sound(t: Lent) -> bool
     requires { Slotted t.lines.now t.nodes.now t.listings.now }
     ensures { result ≡ sound base_rule (read t.entry) }

@@ -7,7 +7,7 @@ use std::io;
 use std::ops::Range;
 
 // Each table is one entry or slot longer than may be lent.
-#[derive(Drop)]
+#[derive(Clone, Copy, Drop)]
 pub struct Case<R> {
     rt: R,
     pub lines: Table<8200>,
@@ -19,12 +19,12 @@ impl<R: Print + Drop> Case<R> {
     // Every table 0, with so many entries lent.
     pub fn lent(
         rt: R,
-        name: &str,
+        name: &[u8],
         lines: usize,
         nodes: usize,
         listings: usize,
     ) -> io::Result<Self> {
-        rt.print(name)?;
+        rt.write_all(name)?;
         Ok(Case {
             rt,
             lines: Table::new(lines),
@@ -34,13 +34,13 @@ impl<R: Print + Drop> Case<R> {
     }
 
     // Four slots, and room for small trees.
-    pub fn small(rt: R, name: &str) -> io::Result<Self> {
+    pub fn small(rt: R, name: &[u8]) -> io::Result<Self> {
         Case::lent(rt, name, 32, 200, 200)
     }
 
     // A line of its own for what follows, on the tables as they are.
-    pub fn begin(&self, name: &str) -> io::Result<()> {
-        self.rt.print(name)
+    pub fn begin(&self, name: &[u8]) -> io::Result<()> {
+        self.rt.write_all(name)
     }
 
     pub fn end(&self) -> io::Result<()> {
@@ -129,20 +129,16 @@ impl<R: Print + Drop> Case<R> {
         put_all(&self.rt, slots)
     }
 
-    // The answer list is lent as it is given, and told as the call leaves it.
-    pub fn look<const N: usize>(&self, points: &[u16], mut answers: [u32; N]) -> io::Result<()> {
+    // The answer list is told as the call leaves it.
+    pub fn look(&self, points: &[u16], answers: &mut [u32]) -> io::Result<()> {
         self.ask(|lines, nodes, listings| {
-            number(map::locate(lines, nodes, listings, points, &mut answers))
+            number(map::locate(lines, nodes, listings, points, answers))
         })?;
-        put_all(&self.rt, &answers)
+        put_all(&self.rt, answers)
     }
 
     // So is the slot list.
-    pub fn view<const N: usize>(
-        &self,
-        [west, south, east, north]: [u16; 4],
-        mut slots: [u16; N],
-    ) -> io::Result<()> {
+    pub fn view(&self, [west, south, east, north]: [u16; 4], slots: &mut [u16]) -> io::Result<()> {
         let window = Window {
             west,
             south,
@@ -150,14 +146,14 @@ impl<R: Print + Drop> Case<R> {
             north,
         };
         self.ask(|lines, nodes, listings| {
-            number(map::window(lines, nodes, listings, window, &mut slots))
+            number(map::window(lines, nodes, listings, window, slots))
         })?;
-        put_all(&self.rt, &slots)
+        put_all(&self.rt, slots)
     }
 
-    // Some entries of a table, and whether all after them are 0.
-    pub fn part<const N: usize>(&self, table: &Table<N>, some: Range<usize>) -> io::Result<()> {
-        let (before, after) = table.entries.split_at(some.end.min(N));
+    // Some entries, and whether all after them are 0.
+    pub fn part(&self, entries: &[u16], some: Range<usize>) -> io::Result<()> {
+        let (before, after) = entries.split_at(some.end.min(entries.len()));
         self.bar()?;
         put_all(&self.rt, &before[some.start.min(before.len())..])?;
         put_whether_any(&self.rt, after)
@@ -165,8 +161,8 @@ impl<R: Print + Drop> Case<R> {
 
     // The tree: so many nodes and listings.
     pub fn tree(&self, nodes: usize, listings: usize) -> io::Result<()> {
-        self.part(&self.nodes, 0..nodes)?;
-        self.part(&self.listings, 0..listings)
+        self.part(&self.nodes.entries, 0..nodes)?;
+        self.part(&self.listings.entries, 0..listings)
     }
 
     // Whether the three tables are all 0.

@@ -1,6 +1,6 @@
 // A table of a case: its entries, and how many of them are lent to a call. A number over all lends as many as there are.
 
-#[derive(Drop)]
+#[derive(Clone, Copy)]
 pub struct Table<const N: usize> {
     pub entries: [u16; N],
     pub lent: usize,

@@ -3,3 +3,4 @@ pub mod Slots
 pub mod Gathered
 pub mod Sound
 pub mod Lent
+pub mod Whole

@@ -170,6 +170,22 @@ module _ {lines w₀ : List ℕ} {c : Span} {k : Block} {n : ℕ} {at : Place} {
   abbrev free : ℕ
   free = c.free + 4 * (c.to - c.from)
 
+  pub spreadable : Spreadable lines w₀ c k
+  spreadable =
+      let o = ready.of_tree in
+      let h = half_side o in
+      let d = double (suc n) in
+      record {
+        on_map = λ s m. (ready.candidates s m).good.on_map;
+        met = λ s m. (ready.candidates s m).met;
+        span = ready.span;
+        below = ready.below;
+        work = omega arith;
+        wide = omega arith;
+        tall = omega arith;
+        even = omega arith;
+      }
+
   pub no_son : {w₁ s t : List ℕ} → length w₁ ≡ length w₀ → at.node ≤ length s → at.listing ≤ length t → SoFar lines w₀ c k n at w₁ s t 0 s t w₁ (Some at)
   unfolding over
   no_son len hn hl =

@@ -3,7 +3,7 @@ use mathlib.Core.Path.{◌≡◌, refl, ◌∙◌}
 use mathlib.Core.List.{List, [], ◌∷◌}
 use Prim.Native.Nat.{ℕ, ◌+◌, ◌-◌, ◌*◌, ◌≤◌, ◌<◌}
 use native.Mathlib.Omega.{arith}
-use lib.ListN.{length, get_or, set}
+use lib.ListN.{length, get_or, set, replicate, length-replicate}
 use lib.Seq.{get_or-set_same, get_or-set_other}
 use Rattle.definitions.specs.Tree.{Tree, leaf, divided, nodes_of, listings_of}
 use Rattle.walk.specs.Placing.{divided_nodes, divided_listings, some_node, there}
@@ -141,3 +141,6 @@ filled_four h e t₁ t₂ t₃ t₄ p =
     let r₂ = next w.row t₁ in
     let r₃ = next r₂ t₂ in
     rw w.whole (filled_sons w.nw w.ne w.sw w.se (told w.row t₁) (told r₂ t₂) (told r₃ t₃) (told (next r₃ t₃) t₄) p)
+
+pub leaf_fits : {nodes : List ℕ} {t : Tree} {n f : ℕ} → Standing nodes t n f → (get_or nodes n 0 ≡ 65535 → ⊥) → f + get_or nodes n 0 ≤ 16384
+leaf_fits {nodes} {t} {n} {f} h e = omega (arith, h.listings_fit, (filled_leaf (replicate (4 * n + 1) 0) h e (simp length-replicate (omega arith))).next_listing)

@@ -1,11 +1,11 @@
-use Rattle.std.proofs.Common.{rules, ◌∙◌}
+use Rattle.std.proofs.Common.{rules}
+use Rattle.tables.specs.Whole.{whole}
 use borrow.Author.Tests.{tests}
 use Rattle.std.proofs.lemmas.Iterator.{YieldsList-from_slice}
 use Rattle.std.proofs.lemmas.Iterator.Adapters.{serves_from_places}
 use Rattle.std.proofs.lemmas.Iterator.Search.{all_from_yields_List}
 use Rattle.leaves.specs.Sides.{ends_at}
-use Rattle.leaves.proofs.Turns.{good_in, parts}
-use Rattle.algebra.specs.Lists.{every_all}
+use Rattle.leaves.proofs.Turns.{good_in, parts, all_of_all}
 use Rattle.leaves.proofs.Fan.{ends_told}
 use Rattle.leaves.proofs.all_end_at.Goals as goal
 
@@ -16,6 +16,7 @@ all-requires-clause-callable c =
 
 pub returns : goal.returns
 returns c =
-    all_from_yields_List (ends_at c.args.lines.now c.args.v) _ _ _ c.all.ensures.ran (YieldsList-from_slice _ c.iter.ensures.rest)
-    (λ x b q k. (search (rules, tests), search (rules, ends_told)))
-    ∙ every_all _ c.args.slots.now
+    all_of_all _
+    (all_from_yields_List (ends_at c.args.lines.now c.args.v) _ _ _ c.all.ensures.ran (YieldsList-from_slice _ c.iter.ensures.rest)
+    (λ x b q k. (search (rules, tests), search (rules, ends_told))))
+    (search whole)

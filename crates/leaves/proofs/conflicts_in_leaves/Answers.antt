@@ -2,6 +2,7 @@ use borrow.Author.Tests.{not-true, not-false}
 use mathlib.Core.Path.{sym, ap, ◌∙◌}
 use mathlib.Core.Bool.{not}
 use native.Mathlib.Omega.{arith}
+use Rattle.leaves.proofs.Turns.{rest_is}
 use Rattle.leaves.proofs.Ahead.{ahead_start, ahead_end, ahead_parted, leaf_here, used_long}
 use Rattle.leaves.proofs.conflicts_in_leaves.Goals as goal
 use Rattle.leaves.proofs.conflicts_in_leaves.Goals.{then-n-mark+else-n-gt-ALONE, else-n-mark, else-n-gt-ALONE-via-then-n-gt-ALONE+else-leaf_conflicts, else-n-gt-ALONE-via-else-n-gt-ALONE}
@@ -31,7 +32,7 @@ loop-node-preserved c =
       | then-n-mark+else-n-gt-ALONE v ↦ let l = here (λ e. v.if-n-mark.true (e ∙ sym c.from-mark.ensures)) in rw v.rest-is (l.passed (elim v.else-n-gt-ALONE.branch [
         | else-n-gt-ALONE-via-then-n-gt-ALONE+else-leaf_conflicts u ↦ not-false _ (rw v.split_at.ensures.front at (sym u.if-leaf_conflicts.ensures))
         | else-n-gt-ALONE-via-else-n-gt-ALONE u ↦ l.few u.if-n-gt-ALONE.false
-      ]) v.split_at.ensures.back)
+      ]) (search (v.split_at.ensures.back, rest_is)))
       | else-n-mark v ↦ rw v.rest-is (ahead_parted inv (omega arith) c.loop-node-test.true c.from-n.ensures (v.if-n-mark.false ∙ c.from-mark.ensures))
     ]
 

@@ -1,4 +1,5 @@
-use Rattle.std.proofs.Common.{rules, ◌∙◌}
+use Rattle.std.proofs.Common.{rules}
+use Rattle.tables.specs.Whole.{whole}
 use borrow.Author.Tests.{tests}
 use Rattle.std.proofs.lemmas.Iterator.{YieldsList-from_slice}
 use Rattle.std.proofs.lemmas.Iterator.Adapters.{serves_from_places}
@@ -7,7 +8,7 @@ use Rattle.definitions.specs.Shape.{conflict}
 use Rattle.definitions.specs.Tables.{line_at}
 use Rattle.geometry.specs.Means.{line_of}
 use Rattle.leaves.specs.Pass.{clear_of}
-use Rattle.leaves.proofs.Turns.{good_in, conflict_asked, parts, any_not_every, conflict_told}
+use Rattle.leaves.proofs.Turns.{good_in, conflict_asked, parts, any_of_all, conflict_told}
 use Rattle.leaves.proofs.conflicts_with.Goals as goal
 
 pub any-requires-clause-callable : goal.any-requires-clause-callable
@@ -21,6 +22,7 @@ any-requires-clause-callable c =
 pub returns : goal.returns
 unfolding clear_of
 returns c =
-    any_from_yields_List (λ s. conflict (line_of c.args.l) (line_at c.args.lines.now s)) _ _ _ c.any.ensures.ran (YieldsList-from_slice _ c.iter.ensures.rest)
-    (λ x b q k. (search (rules, tests), search (rules, conflict_told)))
-    ∙ any_not_every _ c.args.slots.now
+    any_of_all _
+    (any_from_yields_List (λ s. conflict (line_of c.args.l) (line_at c.args.lines.now s)) _ _ _ c.any.ensures.ran (YieldsList-from_slice _ c.iter.ensures.rest)
+    (λ x b q k. (search (rules, tests), search (rules, conflict_told))))
+    (search whole)

@@ -21,7 +21,7 @@ pub returns-then-slots-n : goal.returns-then-slots-n
 returns-then-slots-n c = list_short (found_in _ c.area_in.ensures c.seen_slots-n.ensures) _ c.if-slots-n.true
 
 pub slice_bounds-found-end : goal.slice_bounds-found-end
-slice_bounds-found-end c = front_fits c.seen_slots-n.ensures
+slice_bounds-found-end c = omega (arith, front_fits c.seen_slots-n.ensures, c.seen_slots-n.auto.to)
 
 pub slice_bounds-copy-end : goal.slice_bounds-copy-end
 slice_bounds-copy-end c = simp length-take (omega (arith, front_fits c.seen_slots-n.ensures))
