@@ -30,7 +30,7 @@ fn built_same(t: Lent, built: &mut [u16], named: &mut [u16]) -> bool
     !conflicts_in_leaves(t, end.node)
 }
 
-// Apart: a call that is refused before it needs the arrays takes no stack for them.
+// Apart: what is refused before the arrays are needed takes no stack for them.
 #[inline(never)]
 fn trees_sound(t: Lent) -> bool
     requires { Slotted t.lines.now t.nodes.now t.listings.now }
@@ -53,6 +53,8 @@ pub fn is_sound(t: Lent) -> bool
 
 // What every call but start asks of the lent tables first: refusal 1 or 2, or nothing.
 // stays: three slices, as the calls are lent them; from here down they are one value.
+// Apart: within locate it would cost its lookups some instructions.
+#[inline(never)]
 pub fn check(lines: &[u16], nodes: &[u16], listings: &[u16]) -> Result<(), Refusal>
     ensures { result ≡ checked base_rule (tables lines.entry.now nodes.now listings.now) }
 {
