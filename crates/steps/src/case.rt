@@ -9,7 +9,7 @@ use std::ops::Range;
 // Each table is one entry or slot longer than may be lent.
 #[derive(Clone, Copy, Drop)]
 pub struct Case<R> {
-    rt: R,
+    pub rt: R,
     pub lines: Table<8200>,
     pub nodes: Table<16385>,
     pub listings: Table<16385>,
@@ -48,12 +48,12 @@ impl<R: Print + Drop> Case<R> {
     }
 
     // Between two steps.
-    fn bar(&self) -> io::Result<()> {
+    pub fn bar(&self) -> io::Result<()> {
         self.rt.print(" |")
     }
 
     // Refusal and detail, which a call gives as one number.
-    fn tell(&self, number: u64) -> io::Result<()> {
+    pub fn tell(&self, number: u64) -> io::Result<()> {
         put(&self.rt, number >> 32)?;
         put(&self.rt, number & 0xffff_ffff)
     }
@@ -115,12 +115,26 @@ impl<R: Print + Drop> Case<R> {
         self.call(|lines, nodes, listings| number(map::delete(lines, nodes, listings, handle)))
     }
 
-    // The answer, the leaf's side and corner, how many lines it lists, and their slots.
     pub fn show(&self, x: u16, y: u16) -> io::Result<()> {
-        let lines = self.lines.lent();
-        let nodes = self.nodes.lent();
-        let listings = self.listings.lent();
         self.bar()?;
+        self.show_leaf(
+            self.lines.lent(),
+            self.nodes.lent(),
+            self.listings.lent(),
+            x,
+            y,
+        )
+    }
+
+    // The answer, the leaf's side and corner, how many lines it lists, and their slots, of any three tables.
+    pub fn show_leaf(
+        &self,
+        lines: &[u16],
+        nodes: &[u16],
+        listings: &[u16],
+        x: u16,
+        y: u16,
+    ) -> io::Result<()> {
         let shown = map::show_leaf(lines, nodes, listings, x, y);
         let slots = map::show_part(lines, nodes, listings, x, y);
         self.tell(number(shown.answer))?;

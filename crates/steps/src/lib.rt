@@ -6,5 +6,5 @@
 #![tactic(auto)]
 
 pub mod case;
-mod numbers;
+pub mod numbers;
 pub mod table;
