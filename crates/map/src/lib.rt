@@ -48,6 +48,7 @@ pub fn delete(lines: &mut [u16], nodes: &mut [u16], listings: &mut [u16], handle
     Ok(0)
 }
 
+// An exit of its own for a damaged map would be proved by this law: so the edit that nods there is refused for its answer alone.
 #[tactic(auto, using(crate::proofs::Locates::told_damaged))]
 pub fn locate(
     lines: &[u16],

@@ -3,4 +3,3 @@ pub mod Slots
 pub mod Gathered
 pub mod Sound
 pub mod Lent
-pub mod Whole

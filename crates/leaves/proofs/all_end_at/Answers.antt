@@ -1,5 +1,6 @@
 use Rattle.std.proofs.Common.{rules}
-use Rattle.tables.specs.Whole.{whole}
+use native.Mathlib.Omega.{arith}
+use lib.Seq.{take_all}
 use borrow.Author.Tests.{tests}
 use Rattle.std.proofs.lemmas.Iterator.{YieldsList-from_slice}
 use Rattle.std.proofs.lemmas.Iterator.Adapters.{serves_from_places}
@@ -19,4 +20,4 @@ returns c =
     all_of_all _
     (all_from_yields_List (ends_at c.args.lines.now c.args.v) _ _ _ c.all.ensures.ran (YieldsList-from_slice _ c.iter.ensures.rest)
     (λ x b q k. (search (rules, tests), search (rules, ends_told))))
-    (search whole)
+    (search (take_all, arith))

@@ -1,5 +1,6 @@
 use Rattle.std.proofs.Common.{rules}
-use Rattle.tables.specs.Whole.{whole}
+use native.Mathlib.Omega.{arith}
+use lib.Seq.{take_all}
 use borrow.Author.Tests.{tests}
 use Rattle.std.proofs.lemmas.Iterator.{YieldsList-from_slice}
 use Rattle.std.proofs.lemmas.Iterator.Adapters.{serves_from_places}
@@ -25,4 +26,4 @@ returns c =
     any_of_all _
     (any_from_yields_List (λ s. conflict (line_of c.args.l) (line_at c.args.lines.now s)) _ _ _ c.any.ensures.ran (YieldsList-from_slice _ c.iter.ensures.rest)
     (λ x b q k. (search (rules, tests), search (rules, conflict_told))))
-    (search whole)
+    (search (take_all, arith))
